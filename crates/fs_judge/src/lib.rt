@@ -13,6 +13,7 @@ mod problem;
 mod sought;
 mod verdict;
 
+pub use fs_judge_hunt::{Alone, Chase, Crew, Learned, Left, Others, Piece};
 pub use judge::Judge;
 pub use problem::Problem;
 pub use verdict::Verdict;

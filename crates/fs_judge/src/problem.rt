@@ -19,7 +19,7 @@ use crate::sought::{Sought, checked, refuted};
 use crate::verdict::{Verdict, forbidden};
 use fs_cand_listing::check_number;
 use fs_cert_evidence::{Cycles, Inference};
-use fs_judge_hunt::{Found, Hunter, Kept};
+use fs_judge_hunt::{Alone, Crew, Found, Hunter, Kept};
 use fs_judge_runs::{hunter_asking, hunter_of};
 use fs_kinds::{Fault, List, Placement, Slot};
 use fs_model::Test;
@@ -143,17 +143,20 @@ impl Problem {
         &self.test
     }
 
-    /// What a hunt finds for the placement, if it doesn't give up; none where that doesn't hold. The error is F19.
-    fn hunted(
+    /// What a hunt of the crew finds for the placement, if it doesn't give up; none where that doesn't hold. The error is F19.
+    fn hunted<C: Crew>(
         &self,
         alloc: Global,
         kept: &mut Kept,
         placement: &Placement,
+        crew: &C,
     ) -> Result<Option<Sought>, Fault>
         ensures ok { IfOk result (λ found. IfSome found (IsSought self.now placement.now)) }
         ensures err { IsOkUnless result Memory }
     {
-        let found = self.hunter.hunt(alloc, kept, placement, MOST_INFERENCES)?;
+        let found = self
+            .hunter
+            .hunt_by(alloc, kept, placement, MOST_INFERENCES, crew)?;
         if matches!(&found, Found::GaveUp) {
             return Ok(Some(Sought::Nothing));
         }
@@ -163,22 +166,23 @@ impl Problem {
         }
     }
 
-    /// What a hunt finds for the placement, as far as it holds. The hunt begins with what earlier ones have kept; where
+    /// What a hunt of the crew finds for the placement, as far as it holds. The hunt begins with what earlier ones have kept; where
     /// what it finds doesn't hold, another one begins with nothing. The error is F19.
-    pub(crate) fn sought(
+    pub(crate) fn sought<C: Crew>(
         &self,
         alloc: Global,
         kept: &mut Kept,
         placement: &Placement,
+        crew: &C,
     ) -> Result<Sought, Fault>
         ensures ok { IfOk result (IsSought self.now placement.now) }
         ensures err { IsOkUnless result Memory }
     {
-        if let Some(sought) = self.hunted(alloc, kept, placement)? {
+        if let Some(sought) = self.hunted(alloc, kept, placement, crew)? {
             return Ok(sought);
         }
         kept.refuse();
-        match self.hunted(alloc, kept, placement)? {
+        match self.hunted(alloc, kept, placement, crew)? {
             Some(sought) => Ok(sought),
             None => Ok(Sought::Nothing),
         }
@@ -242,7 +246,7 @@ impl Problem {
         ensures ok { IfOk result (IsVerdict self.now placement.now) }
         ensures err { IfErr result (λ f. f ≢ Memory → IsCandidateFault self.now f) }
     {
-        match self.sought(alloc, &mut Kept::new(), placement)? {
+        match self.sought(alloc, &mut Kept::new(), placement, &Alone)? {
             Sought::Refuted(inferences) => self.refuted(placement, inferences),
             Sought::Shown(known) => self.shown(alloc, &known, placement, first),
             Sought::Nothing => self.by_list(alloc, placement, first),

@@ -56,28 +56,36 @@ pub(crate) struct Ground<'a> {
 
 /// A node with parts, of which some have been looked through.
 #[derive(Drop)]
-struct Frame {
-    node: usize,
+pub(crate) struct Frame {
+    pub(crate) node: usize,
     /// How many parts have been taken.
-    taken: usize,
+    pub(crate) taken: usize,
     /// The part that is looked through.
-    part: usize,
+    pub(crate) part: usize,
     /// What the trail was above its split.
-    mark: Mark,
+    pub(crate) mark: Mark,
 }
 
 /// Searches over one tree, one after the other.
 #[derive(Drop)]
 pub(crate) struct Search {
     pub(crate) tree: Tree,
-    learned: Learned,
+    pub(crate) learned: Learned,
     /// The nodes from the root to the one that is looked through.
-    path: Vec<Frame>,
-    trail: Trail,
+    pub(crate) path: Vec<Frame>,
+    pub(crate) trail: Trail,
+    /// How long the path is above the region that is hunted.
+    pub(crate) base: usize,
+    /// The node that is entered next, if it isn't the next part of the one at the path's end.
+    pub(crate) next: Option<usize>,
     /// The number of the search, how many nodes it has entered, and how many there were before.
-    hunt: usize,
-    entered: usize,
-    before: usize,
+    pub(crate) hunt: usize,
+    pub(crate) entered: usize,
+    pub(crate) before: usize,
+    /// How many nodes there are in all, with those of others.
+    pub(crate) many: usize,
+    /// How many looks were made when a part was given away last.
+    pub(crate) given: usize,
 }
 
 impl Search {
@@ -88,9 +96,13 @@ impl Search {
             learned: Learned::new(alloc),
             path: Vec::new(alloc),
             trail: Trail::new(alloc),
+            base: 0,
+            next: None,
             hunt: 0,
             entered: 0,
             before: 0,
+            many: 0,
+            given: 0,
         })
     }
 
@@ -222,10 +234,10 @@ impl Search {
         Ok(parts.pop())
     }
 
-    /// How many nodes of the path are above the last one whose region is kept.
-    fn kept_above(&self) -> usize {
+    /// How many of the first so many nodes of the path are above the last one whose region is kept.
+    pub(crate) fn kept_above(&self, count: usize) -> usize {
         let mut above = 0;
-        for (depth, frame) in self.path.iter().enumerate() {
+        for (depth, frame) in self.path.iter().take(count).enumerate() {
             if self.tree.region(frame.node).is_some() {
                 above = depth;
             }
@@ -239,7 +251,7 @@ impl Search {
             return Ok(Some(region.copy(ground.alloc)?));
         }
         let mut made: Option<Region> = None;
-        let start = self.kept_above();
+        let start = self.kept_above(self.path.len());
         for (depth, frame) in self.path.iter().enumerate() {
             if depth < start {
                 continue;
@@ -378,9 +390,7 @@ impl Search {
             decision: split.decision,
             held,
             used: split.used,
-            first: self.tree.nodes.len(),
             count: split.children.len(),
-            shown: 0,
         };
         self.tree.branch(ground.alloc, node, region, branching)?;
         self.go_down(node, mark)?;
@@ -419,9 +429,9 @@ impl Search {
         }
     }
 
-    /// Is the part into which the path goes at its end against an order that follows above with these pairs placed?
-    fn is_contrary(&self, placed: &SlotPairs) -> bool {
-        let Some(frame) = self.path.last() else {
+    /// Is the part of the path's node at this depth against an order that follows above with these pairs placed?
+    pub(crate) fn is_contrary(&self, depth: usize, part: usize, placed: &SlotPairs) -> bool {
+        let Some(frame) = self.path.get(depth) else {
             return false;
         };
         let Some(branching) = self.tree.branching(frame.node) else {
@@ -430,35 +440,45 @@ impl Search {
         if !matches!(branching.decision, Decision::Order(_, _)) {
             return false;
         }
-        let mut known = self.known(self.path.len().saturating_sub(1), placed);
+        let mut known = self.known(depth, placed);
         branching.add_held(&mut known, placed);
         match branching.known_part(&known) {
-            Some(part) => part != frame.part,
+            Some(known) => known != part,
             None => false,
         }
     }
 
-    /// Takes the next part of the node at the path's end, if it has one left.
-    fn next_part(&mut self) -> Option<usize> {
-        let frame = self.path.last_mut()?;
+    /// Takes the next part of the path's node at this depth, if it has one left.
+    pub(crate) fn take_part(&mut self, depth: usize) -> Option<usize> {
+        let frame = self.path.get_mut(depth)?;
+        let node = self.tree.node(frame.node)?;
         let branching = self.tree.branching(frame.node)?;
         if frame.taken >= branching.count {
             return None;
         }
-        frame.part = branching.part(frame.taken);
+        let part = node.part(frame.taken);
         frame.taken = frame.taken.saturating_add(1);
-        Some(branching.first.saturating_add(frame.part))
+        Some(part)
+    }
+
+    /// The path goes into this part at its end.
+    fn go_into(&mut self, part: usize) -> Option<usize> {
+        let frame = self.path.last_mut()?;
+        frame.part = part;
+        Some(self.tree.part(frame.node, part))
     }
 
     /// The next node, if the one at the path's end has a part left; else that one is done.
     fn advance(&mut self, placed: &SlotPairs) -> Option<usize> {
-        let next = self.next_part();
-        if next.is_none() {
+        let depth = self.path.len().saturating_sub(1);
+        let Some(part) = self.take_part(depth) else {
             self.go_up();
-        } else if self.is_contrary(placed) {
+            return None;
+        };
+        if self.is_contrary(depth, part, placed) {
             return None;
         }
-        next
+        self.go_into(part)
     }
 
     /// The node at the path's end is done.
@@ -467,7 +487,7 @@ impl Search {
             return;
         };
         self.trail.go_back(&frame.mark);
-        if self.tree.nodes.len() > MANY_NODES && frame.node != 0 {
+        if self.tree.nodes.len().max(self.many) > MANY_NODES && frame.node != 0 {
             if let Some(node) = self.tree.nodes.get_mut(frame.node) {
                 node.region = None;
             }
@@ -478,15 +498,34 @@ impl Search {
     fn remember(&mut self) {
         for frame in &self.path {
             if let Some(node) = self.tree.nodes.get_mut(frame.node) {
-                if let Some(branching) = &mut node.branching {
-                    branching.shown = frame.part;
-                }
+                node.shown = frame.part;
             }
         }
     }
 
+    /// The parts into which the path goes.
+    pub(crate) fn parts(&self, alloc: Global) -> Result<Vec<usize>, AllocError> {
+        let mut parts = Vec::new(alloc);
+        for frame in &self.path {
+            parts.push(frame.part)?;
+        }
+        Ok(parts)
+    }
+
+    /// Each node of the way into these parts keeps that something was shown there.
+    pub(crate) fn remember_parts(&mut self, parts: &[usize]) {
+        let mut number = 0;
+        for part in parts {
+            let next = self.tree.part(number, *part);
+            if let Some(node) = self.tree.nodes.get_mut(number) {
+                node.shown = *part;
+            }
+            number = next;
+        }
+    }
+
     /// Has it passed the limits? Each node that it has made would take an inference at least.
-    fn has_passed(&self, limits: Limits) -> bool {
+    pub(crate) fn has_passed(&self, limits: Limits) -> bool {
         let made = self.tree.nodes.len().saturating_sub(self.before);
         self.entered.max(made) > limits.regions || self.trail.looks > limits.looks
     }
@@ -495,8 +534,28 @@ impl Search {
         self.path = Vec::new(alloc);
         self.trail = Trail::new(alloc);
         self.hunt = self.hunt.wrapping_add(1);
+        self.next = Some(0);
         self.entered = 0;
         self.before = self.tree.nodes.len();
+        self.many = 0;
+        self.given = 0;
+    }
+
+    /// Goes one step on: enters a node, or takes the next part. What the search comes to, if it is at its end.
+    pub(crate) fn step(&mut self, ground: Ground<'_>) -> Result<Option<Hunted>, AllocError> {
+        match self.next.take() {
+            Some(node) => {
+                if let Some(region) = self.enter(ground, node)? {
+                    self.remember();
+                    return Ok(Some(Hunted::Shown(region)));
+                }
+            }
+            None => self.next = self.advance(&ground.field.fences.pairs),
+        }
+        if self.next.is_none() && self.path.len() <= self.base {
+            return Ok(Some(Hunted::Refuted));
+        }
+        Ok(None)
     }
 
     /// Looks through the tree, within the limits.
@@ -508,22 +567,12 @@ impl Search {
     ) -> Result<Hunted, AllocError> {
         let ground = Ground { alloc, field };
         self.begin(alloc);
-        let mut next = Some(0);
         for _ in 0..limits.regions.saturating_mul(4).saturating_add(8) {
             if self.has_passed(limits) {
                 return Ok(Hunted::GaveUp);
             }
-            match next.take() {
-                Some(node) => {
-                    if let Some(region) = self.enter(ground, node)? {
-                        self.remember();
-                        return Ok(Hunted::Shown(region));
-                    }
-                }
-                None => next = self.advance(&field.fences.pairs),
-            }
-            if next.is_none() && self.path.is_empty() {
-                return Ok(Hunted::Refuted);
+            if let Some(hunted) = self.step(ground)? {
+                return Ok(hunted);
             }
         }
         Ok(Hunted::GaveUp)

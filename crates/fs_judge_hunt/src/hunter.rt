@@ -5,6 +5,7 @@ ghost use Rattle.fs_kinds.specs.declared.fault.Fault.TheVariants.{Memory};
 
 use crate::access::initial_word;
 use crate::condition::Condition;
+use crate::crew::{Alone, Chase, Crew};
 use crate::fences::{all_fenced, pairs_at};
 use crate::first::hunt_first;
 use crate::frames::{Hunted, Limits, Search};
@@ -92,7 +93,7 @@ impl Kept {
     }
 
     /// Keeps what the search has, unless a new tree is better.
-    fn put(&mut self, search: Search) {
+    pub(crate) fn put(&mut self, search: Search) {
         self.looks = search.looks();
         if !search.is_large() {
             self.search = Some(search);
@@ -170,7 +171,11 @@ impl Hunter {
         self.runs.has_many_stores
     }
 
-    fn field<'a>(&'a self, fenced: &'a [Vec<Rule>], placement: &'a Placement) -> Field<'a> {
+    pub(crate) fn field<'a>(
+        &'a self,
+        fenced: &'a [Vec<Rule>],
+        placement: &'a Placement,
+    ) -> Field<'a> {
         let entries = placement.as_slice();
         Field {
             harts: &self.runs.harts,
@@ -188,7 +193,7 @@ impl Hunter {
     }
 
     /// What the search has come to.
-    fn found(
+    pub(crate) fn found(
         &self,
         alloc: Global,
         field: Field<'_>,
@@ -208,7 +213,7 @@ impl Hunter {
     }
 
     /// A search over all candidates that show the outcome, if there can be one: that which is kept, or a new one.
-    fn search(
+    pub(crate) fn search(
         &self,
         alloc: Global,
         field: Field<'_>,
@@ -237,7 +242,21 @@ impl Hunter {
     ) -> Result<Found, Fault>
         ensures err { IsOkUnless result Memory }
     {
-        match self.hunt_on(alloc, kept, placement, most)? {
+        self.hunt_by(alloc, kept, placement, most, &Alone)
+    }
+
+    /// The same, by the crew: where one has looked at 300 regions the others join.
+    pub fn hunt_by<C: Crew>(
+        &self,
+        alloc: Global,
+        kept: &mut Kept,
+        placement: &Placement,
+        most: usize,
+        crew: &C,
+    ) -> Result<Found, Fault>
+        ensures err { IsOkUnless result Memory }
+    {
+        match self.hunt_on(alloc, kept, placement, most, crew)? {
             Found::Shown(execution) if kept.widens => Ok(Found::Shown(self.widened(
                 alloc, kept, placement, execution,
             )?)),
@@ -245,31 +264,22 @@ impl Hunter {
         }
     }
 
-    fn hunt_on(
+    fn hunt_on<C: Crew>(
         &self,
         alloc: Global,
         kept: &mut Kept,
         placement: &Placement,
         most: usize,
+        crew: &C,
     ) -> Result<Found, AllocError> {
         let fenced = all_fenced(alloc, &self.runs.harts, placement)?;
-        self.hunt_in(alloc, self.field(&fenced, placement), kept, most)
-    }
-
-    fn hunt_in(
-        &self,
-        alloc: Global,
-        field: Field<'_>,
-        kept: &mut Kept,
-        most: usize,
-    ) -> Result<Found, AllocError> {
-        let Some(mut search) = self.search(alloc, field, kept)? else {
-            return Ok(Found::Refuted(List::new(Vec::new(alloc))));
+        let chase = Chase {
+            hunter: self,
+            placement,
+            fenced: &fenced,
+            most,
         };
-        let hunted = search.hunt(alloc, field, Limits::of(most))?;
-        let found = self.found(alloc, field, &search, hunted, most)?;
-        kept.put(search);
-        Ok(found)
+        chase.found(alloc, kept, crew)
     }
 
     /// The execution, or one that bears `rw,rw` in more and more slots, from the last one on, as far as short hunts

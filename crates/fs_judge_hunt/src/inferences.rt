@@ -164,7 +164,7 @@ impl Writer<'_> {
                     _ => {}
                 }
                 branching.add_decided(&mut known, part);
-                let number = branching.first.saturating_add(part);
+                let number = tree.part(frame.node, part);
                 return self.enter(number, known);
             }
         }

@@ -7,14 +7,18 @@ use crate::names::{MOST_NAMES, Origin, has};
 use crate::region::Region;
 use fs_cert_evidence::Cause;
 use std::alloc::{AllocError, Global};
+use std::sync::Arc;
 
 /// As many cycles are kept.
 const MOST_CYCLES: usize = 256;
 
-/// The cycles, each once.
+/// The cycles that one who hunts has learned, each once; how many of them the others were told, and how many of theirs
+/// were heard.
 #[derive(Drop)]
-pub(crate) struct Learned {
-    cycles: Vec<Vec<Edge>>,
+pub struct Learned {
+    cycles: Vec<Arc<Vec<Edge>>>,
+    told: usize,
+    heard: usize,
 }
 
 /// What a link lacks in a region.
@@ -67,10 +71,43 @@ fn lacking(region: &Region, facts: &Facts, edges: &[Edge]) -> Option<u8> {
 
 impl Learned {
     /// None.
-    pub(crate) fn new(alloc: Global) -> Learned {
+    pub fn new(alloc: Global) -> Learned {
         Learned {
             cycles: Vec::new(alloc),
+            told: 0,
+            heard: 0,
         }
+    }
+
+    /// How many there are. In constant time.
+    pub fn count(&self) -> usize {
+        self.cycles.len()
+    }
+
+    /// Is there something to tell, or to hear where the others have so many?
+    pub(crate) fn has_news(&self, others: usize) -> bool {
+        self.told < self.cycles.len() || self.heard < others
+    }
+
+    /// Takes over those of the other from this number on, as far as they are new and there is room.
+    fn hear(&mut self, other: &Learned, from: usize) -> Result<(), AllocError> {
+        for place in from..other.cycles.len() {
+            let cycle = &other.cycles[place];
+            if self.cycles.len() < MOST_CYCLES && !self.has(cycle) {
+                self.cycles.push(Arc::try_clone(cycle)?)?;
+            }
+        }
+        Ok(())
+    }
+
+    /// Tells the others what is new here, and hears what is new there. The cost: for each new one that of a look at
+    /// all.
+    pub fn exchange(&mut self, others: &mut Learned) -> Result<(), AllocError> {
+        others.hear(self, self.told)?;
+        self.hear(others, self.heard)?;
+        self.told = self.cycles.len();
+        self.heard = others.cycles.len();
+        Ok(())
     }
 
     /// Is the cycle there?
@@ -88,7 +125,7 @@ impl Learned {
         if self.cycles.len() < MOST_CYCLES && !self.has(edges) {
             let mut cycle = Vec::new(alloc);
             cycle.extend_from_slice(edges)?;
-            self.cycles.push(cycle)?;
+            self.cycles.push(Arc::new(alloc, cycle)?)?;
         }
         Ok(())
     }

@@ -196,6 +196,16 @@ impl Trail {
         }
     }
 
+    /// What it was at the mark, with no look counted.
+    pub(crate) fn copy_of(&self, alloc: Global, mark: &Mark) -> Result<Trail, AllocError> {
+        let mut copy = Trail::new(alloc);
+        copy.open = mark.open;
+        for ended in self.ended.iter().take(mark.ended) {
+            copy.add(ended.branch, &ended.dead)?;
+        }
+        Ok(copy)
+    }
+
     pub(crate) fn mark(&self) -> Mark {
         Mark {
             ended: self.ended.len(),

@@ -8,6 +8,7 @@ use crate::region::Region;
 use crate::splits::Decision;
 use crate::trail::Dead;
 use std::alloc::{AllocError, Global};
+use std::mem::swap;
 use std::sync::Arc;
 
 /// As many endings are kept of a region, each for other placements.
@@ -73,11 +74,8 @@ pub(crate) struct Branching {
     pub(crate) held: Vec<Held>,
     /// The pairs of stores that the decision rests on.
     pub(crate) used: Relation,
-    /// The node of the first of its parts, behind which are those of the others.
-    pub(crate) first: usize,
+    /// How many parts it has.
     pub(crate) count: usize,
-    /// The part in which something was shown last.
-    pub(crate) shown: usize,
 }
 
 /// What followed in a region in the hunt of this number.
@@ -96,7 +94,13 @@ pub(crate) struct Node {
     pub(crate) fresh: Option<Fresh>,
     /// The newest last.
     pub(crate) leaves: Vec<Leaf>,
-    pub(crate) branching: Option<Box<Branching>>,
+    pub(crate) branching: Option<Arc<Branching>>,
+    /// Where it is split: the node of the first of its parts, behind which are those of the others.
+    pub(crate) first: usize,
+    /// The part in which something was shown last.
+    pub(crate) shown: usize,
+    /// The ticket of the piece that has all below it, if another hunts there.
+    pub(crate) given: Option<usize>,
 }
 
 impl Node {
@@ -107,6 +111,9 @@ impl Node {
             fresh: None,
             leaves: Vec::new(alloc),
             branching: None,
+            first: 0,
+            shown: 0,
+            given: None,
         }
     }
 
@@ -117,12 +124,10 @@ impl Node {
         fresh: Option<Fresh>,
     ) -> Result<Node, AllocError> {
         let region = Box::new(alloc, region)?;
-        Ok(Node {
-            region: Some(region),
-            fresh,
-            leaves: Vec::new(alloc),
-            branching: None,
-        })
+        let mut node = Node::new(alloc);
+        node.region = Some(region);
+        node.fresh = fresh;
+        Ok(node)
     }
 
     /// One that has ended.
@@ -152,6 +157,33 @@ impl Node {
         }
         self.leaves.push(leaf)?;
         Ok(())
+    }
+
+    /// It is split as the other one is, but has no parts.
+    pub(crate) fn copy_split(&mut self, other: &Node) -> Result<(), AllocError> {
+        if let Some(branching) = &other.branching {
+            self.branching = Some(Arc::try_clone(branching)?);
+        }
+        Ok(())
+    }
+
+    /// The node of its first part, and how many parts it has; none where it isn't split.
+    fn parts(&self) -> (usize, usize) {
+        match &self.branching {
+            Some(branching) => (self.first, branching.count),
+            None => (0, 0),
+        }
+    }
+
+    /// The part that is looked through after so many others: the one in which something was shown last comes first.
+    pub(crate) fn part(&self, number: usize) -> usize {
+        if number == 0 {
+            self.shown
+        } else if number <= self.shown {
+            number.saturating_sub(1)
+        } else {
+            number
+        }
     }
 }
 
@@ -193,17 +225,6 @@ impl Branching {
             _ => None,
         }
     }
-
-    /// The part that is looked through after so many others: the one in which something was shown last comes first.
-    pub(crate) fn part(&self, number: usize) -> usize {
-        if number == 0 {
-            self.shown
-        } else if number <= self.shown {
-            number.saturating_sub(1)
-        } else {
-            number
-        }
-    }
 }
 
 /// The nodes: that of the root is the first.
@@ -224,7 +245,7 @@ impl Tree {
         Ok(Tree { nodes, start })
     }
 
-    /// Puts into the node how its region is split.
+    /// Puts into the node how its region is split; its parts are the next nodes.
     pub(crate) fn branch(
         &mut self,
         alloc: Global,
@@ -232,11 +253,14 @@ impl Tree {
         region: Region,
         branching: Branching,
     ) -> Result<(), AllocError> {
+        let first = self.nodes.len();
         let region = Box::new(alloc, region)?;
-        let branching = Box::new(alloc, branching)?;
+        let branching = Arc::new(alloc, branching)?;
         if let Some(node) = self.nodes.get_mut(number) {
             node.region = Some(region);
             node.branching = Some(branching);
+            node.first = first;
+            node.shown = 0;
         }
         Ok(())
     }
@@ -258,5 +282,81 @@ impl Tree {
             Some(region) => Some(&**region),
             None => None,
         }
+    }
+
+    /// Keeps the region in the node.
+    pub(crate) fn keep(
+        &mut self,
+        alloc: Global,
+        number: usize,
+        region: Region,
+    ) -> Result<(), AllocError> {
+        let region = Box::new(alloc, region)?;
+        if let Some(node) = self.nodes.get_mut(number) {
+            node.region = Some(region);
+        }
+        Ok(())
+    }
+
+    /// The node of this part of the node.
+    pub(crate) fn part(&self, number: usize, part: usize) -> usize {
+        match self.nodes.get(number) {
+            Some(node) => node.first.saturating_add(part),
+            None => usize::MAX,
+        }
+    }
+
+    /// Moves so many nodes behind these. What is left in their place knows nothing.
+    fn move_out(
+        &mut self,
+        alloc: Global,
+        moved: &mut Vec<Node>,
+        first: usize,
+        count: usize,
+    ) -> Result<(), AllocError> {
+        for part in 0..count {
+            let mut node = Node::new(alloc);
+            if let Some(place) = self.nodes.get_mut(first.saturating_add(part)) {
+                swap(place, &mut node);
+            }
+            moved.push(node)?;
+        }
+        Ok(())
+    }
+
+    /// Takes the node out, with all below it; a new one stands in its place.
+    pub(crate) fn take_out(
+        &mut self,
+        alloc: Global,
+        number: usize,
+    ) -> Result<Vec<Node>, AllocError> {
+        let mut moved = Vec::new(alloc);
+        self.move_out(alloc, &mut moved, number, 1)?;
+        for place in 0..self.nodes.len() {
+            let next = moved.len();
+            let Some(node) = moved.get_mut(place) else {
+                break;
+            };
+            let (first, count) = node.parts();
+            node.first = next;
+            self.move_out(alloc, &mut moved, first, count)?;
+        }
+        Ok(moved)
+    }
+
+    /// Puts what was taken out in the place of the node.
+    pub(crate) fn put_back(&mut self, number: usize, moved: Vec<Node>) -> Result<(), AllocError> {
+        let behind = self.nodes.len().saturating_sub(1);
+        let mut is_first = true;
+        for mut node in moved {
+            node.first = node.first.saturating_add(behind);
+            if !is_first {
+                self.nodes.push(node)?;
+            } else if let Some(place) = self.nodes.get_mut(number) {
+                *place = node;
+            }
+            is_first = false;
+        }
+        Ok(())
     }
 }

@@ -1,0 +1,155 @@
+//! One hunt by several: who they are, and what each does.
+
+use crate::frames::{Ground, Hunted, Limits, Search};
+use crate::gathered::gathered;
+use crate::hunter::{Found, Hunter, Kept};
+use crate::learned::Learned;
+use crate::pieces::Piece;
+use crate::region::Field;
+use crate::rules::Rule;
+use fs_cert_evidence::Inference;
+use fs_kinds::{List, Placement};
+use std::alloc::{AllocError, Global};
+
+/// So many regions are looked at by one, before others join.
+const LOOKS_ALONE: usize = 300;
+
+/// The others who hunt for the same verdict, as one of them sees them.
+pub trait Others {
+    /// Counts the regions that were entered, and those that were made. How many there are in all; none where the hunt
+    /// is to stop: something was found, or they are too many.
+    fn count(&self, entered: usize, made: usize) -> Option<usize>;
+
+    /// Has one of them nothing to do?
+    fn are_idle(&self) -> bool;
+
+    /// The number of the next piece.
+    fn ticket(&self) -> usize;
+
+    /// Gives a piece to whoever has nothing to do.
+    fn give(&self, piece: Piece) -> Result<(), AllocError>;
+
+    /// How many cycles they have told of.
+    fn learned(&self) -> usize;
+
+    /// Tells them of these cycles, and hears of theirs.
+    fn exchange(&self, learned: &mut Learned) -> Result<(), AllocError>;
+}
+
+/// What those who hunted together leave.
+#[derive(Drop)]
+pub struct Left {
+    /// All pieces, whether they are at their end or not.
+    pub pieces: Vec<Piece>,
+    pub learned: Learned,
+}
+
+/// Those who may hunt for a verdict.
+pub trait Crew {
+    /// Is it one alone?
+    fn is_alone(&self) -> bool;
+
+    /// They hunt in the piece, and in what each gives to the others, until all is done or something is found. No answer
+    /// depends on how; a call of it that doesn't return stops the search.
+    fn hunt(&self, alloc: Global, chase: &Chase<'_>, piece: Piece) -> Result<Left, AllocError>;
+}
+
+/// One who hunts alone.
+#[derive(Clone, Copy)]
+pub struct Alone;
+
+impl Crew for Alone {
+    fn is_alone(&self) -> bool {
+        true
+    }
+
+    fn hunt(&self, alloc: Global, _chase: &Chase<'_>, piece: Piece) -> Result<Left, AllocError> {
+        let mut pieces = Vec::new(alloc);
+        pieces.push(piece)?;
+        Ok(Left {
+            pieces,
+            learned: Learned::new(alloc),
+        })
+    }
+}
+
+/// What is hunted: a refutation, or an execution, under one placement of fences.
+#[derive(Clone, Copy)]
+pub struct Chase<'a> {
+    pub(crate) hunter: &'a Hunter,
+    pub(crate) placement: &'a Placement,
+    /// Rule 4 in each hart, with the placement.
+    pub(crate) fenced: &'a Vec<Vec<Rule>>,
+    /// As many inferences may be made.
+    pub(crate) most: usize,
+}
+
+impl Chase<'_> {
+    fn field(&self) -> Field<'_> {
+        self.hunter.field(self.fenced, self.placement)
+    }
+
+    /// May so many regions be entered, and so many be made? In constant time.
+    pub fn allows(&self, entered: usize, made: usize) -> bool {
+        entered.max(made) <= self.most
+    }
+
+    /// Hunts in the piece until it is done with it, or the others stop. The cost is that of `Hunter::hunt`.
+    pub fn hunt<O: Others>(
+        &self,
+        alloc: Global,
+        piece: &mut Piece,
+        others: &O,
+    ) -> Result<(), AllocError> {
+        let ground = Ground {
+            alloc,
+            field: self.field(),
+        };
+        let hunted = piece.search.hunt_among(ground, others)?;
+        piece.hunted = Some(hunted);
+        Ok(())
+    }
+
+    /// What the search comes to: by one, and where that takes long by all.
+    fn hunted<C: Crew>(
+        &self,
+        alloc: Global,
+        mut search: Search,
+        crew: &C,
+    ) -> Result<(Option<Search>, Hunted), AllocError> {
+        let limits = Limits::of(self.most);
+        if crew.is_alone() {
+            let hunted = search.hunt(alloc, self.field(), limits)?;
+            return Ok((Some(search), hunted));
+        }
+        let few = Limits {
+            regions: self.most,
+            looks: LOOKS_ALONE,
+        };
+        let hunted = search.hunt(alloc, self.field(), few)?;
+        if !matches!(&hunted, Hunted::GaveUp) || search.has_passed(limits) {
+            return Ok((Some(search), hunted));
+        }
+        gathered(alloc, crew.hunt(alloc, self, Piece::whole(search))?)
+    }
+
+    /// What is found, with what is kept of it.
+    pub(crate) fn found<C: Crew>(
+        &self,
+        alloc: Global,
+        kept: &mut Kept,
+        crew: &C,
+    ) -> Result<Found, AllocError> {
+        let field = self.field();
+        let Some(search) = self.hunter.search(alloc, field, kept)? else {
+            return Ok(Found::Refuted(List::new(Vec::<Inference>::new(alloc))));
+        };
+        let (search, hunted) = self.hunted(alloc, search, crew)?;
+        let Some(search) = search else {
+            return Ok(Found::GaveUp);
+        };
+        let found = self.hunter.found(alloc, field, &search, hunted, self.most)?;
+        kept.put(search);
+        Ok(found)
+    }
+}
