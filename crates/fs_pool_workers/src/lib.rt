@@ -5,10 +5,8 @@
 
 mod crew;
 mod gate;
-mod hunters;
 mod work;
 
 pub use crew::solve;
 pub use fs_board_search::{Answer, Solved, Unwatched, Watch, solve as solve_alone};
 pub use gate::{Gate, Open};
-pub use hunters::Hunters;

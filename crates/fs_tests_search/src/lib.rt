@@ -5,8 +5,6 @@
 #[cfg(test)]
 mod gates;
 #[cfg(test)]
-mod hunters;
-#[cfg(test)]
 mod logs_compared;
 #[cfg(test)]
 mod logs_read;
