@@ -333,7 +333,7 @@ fn kinds_before(
 }
 
 /// Puts the kind, or none, at the slot in place of what is there.
-#[tactic(auto, using(crate::proofs::Parts::slots_with))]
+#[tactic(auto, using(crate::proofs::WitnessLists::slots_with))]
 fn put_at(placement: &mut Placement, entry: &Entry)
     ensures { slots_of placement.new ≡ slots_of placement.old }
 {
