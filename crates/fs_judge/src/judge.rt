@@ -145,6 +145,7 @@ impl Judge {
         first: &[Slot],
         crew: &C,
     ) -> Result<Verdict, Fault>
+        requires { C.may_hunt }
         ensures value { self.new ≡ self.old }
         ensures ok { IfOk result (IsVerdict self.old placement.now) }
         ensures err { IfErr result (λ f. f ≢ Memory → IsCandidateFault self.old f) }
@@ -152,10 +153,7 @@ impl Judge {
         if let Some(witness) = self.look(alloc, placement, first)? {
             return Ok(Verdict::Allowed(witness));
         }
-        match self
-            .problem
-            .sought(alloc, &mut self.kept, placement, crew)?
-        {
+        match self.problem.sought(alloc, &mut self.kept, placement, crew)? {
             Sought::Refuted(inferences) => self.problem.refuted(placement, inferences),
             Sought::Shown(known) => {
                 let slots = widened_first(first, self.kept.borne());

@@ -1,5 +1,6 @@
 //! Hunts by several workers.
 
+use crate::workers::answered;
 use fs_board::Board;
 use fs_board_search::{Unwatched, problem_of, search_alone};
 use fs_kinds::Fault;
@@ -9,8 +10,6 @@ use std::alloc::Global;
 use std::sync::Wait;
 use std::test::Fail;
 use std::thread::Threads;
-
-use crate::workers::answered;
 
 /// Four harts that each add 1 in a lock by swaps; all have been in, and an addition is lost. The last hunt looks at
 /// thousands of regions.
