@@ -150,6 +150,11 @@ def long_searches():
     return {name: grown[name] for name in names} | {'votes-%d-%d-%d' % each: votes(*each) for each in numbers}
 
 
+def long_hunts():
+    """The texts of tests in which one hunt is long, by their names."""
+    return {name: text for name, (text, _) in of_table('hunts').items()}
+
+
 PARTS = {'⏎': '\n', 'HEAD': 'RISCV T\n', 'BODY': '{ 0:x6=x; }\nP0 ;\nlw x5,0(x6) ;\n', 'TAIL': 'exists (0:x5=0)\n'}
 TINY = PARTS['HEAD'] + PARTS['BODY'] + PARTS['TAIL']
 

@@ -15,7 +15,7 @@ use crate::{Child, Scout, TRIES, Taken, Watch};
 use fs_board::Board;
 use fs_board_offers::cost;
 use fs_cert_evidence::Witness;
-use fs_judge::Problem;
+use fs_judge::{Alone, Crew, Problem};
 use fs_kinds::Fault;
 use std::alloc::Global;
 use std::sync::Arc;
@@ -28,13 +28,12 @@ fn best_cost(board: &Board) -> Option<u64> {
 }
 
 /// Is done with a node in the first way that serves.
-fn finish_node<W: Watch>(
+fn finish_node(
     alloc: Global,
     board: &mut Board,
     scout: &mut Scout,
     children: &mut Vec<Child>,
     taken: &Taken,
-    watch: &mut W,
 ) -> Result<(), Fault>
     requires same { board.old.question ≡ scout.old }
     requires taken { IsTaken board.old taken.now.node (arc_value taken.now.part) }
@@ -43,7 +42,6 @@ fn finish_node<W: Watch>(
     ensures ok { OnOk result (MovesOn board.old board.new) }
     ensures err { IfErr result (λ f. f ≢ Fault.Memory → IsSearchFault board.old f) }
 {
-    scout.prepare(alloc, taken, watch)?;
     scout.see_bound(board.bound())?;
     for way in TRIES {
         if try_way(alloc, board, scout, way, taken)? {
@@ -67,12 +65,13 @@ fn may_stop(scout: &Scout, alone: Option<usize>, nodes: usize) -> bool
 /// Searches until the board is finished, and then it is true; or, where the worker is alone for so many nodes at most,
 /// until it is done with these, or others may help.
 #[tactic(auto, using(crate::proofs::Stopping::stopped))]
-fn sweep<W: Watch>(
+fn sweep<W: Watch, C: Crew>(
     alloc: Global,
     board: &mut Board,
     scout: &mut Scout,
     alone: Option<usize>,
     watch: &mut W,
+    crew: &C,
 ) -> Result<bool, Fault>
     requires { board.old.question ≡ scout.old }
     ensures scout { scout.new ≡ scout.old }
@@ -88,7 +87,8 @@ fn sweep<W: Watch>(
             return Ok(true);
         };
         watch.searched(board.len(), best_cost(board));
-        finish_node(alloc, board, scout, &mut children, &taken, watch)?;
+        scout.prepare(alloc, &taken, watch, crew)?;
+        finish_node(alloc, board, scout, &mut children, &taken)?;
         nodes = nodes.saturating_add(1);
     }
     Ok(false)
@@ -117,19 +117,20 @@ pub fn search<W: Watch>(
 {
     let question = Arc::try_clone(board.question())?;
     let mut scout = Scout::planner(alloc, question, problem);
-    let _all = sweep(alloc, board, &mut scout, None, watch)?;
+    let _all = sweep(alloc, board, &mut scout, None, watch, &Alone)?;
     Ok(())
 }
 
 /// Searches as `search` does, but stops when it is done with so many nodes, or where judging takes so long that other
 /// workers may help: then no node is held by it, and the witnesses that it has met come back. None where the board is
-/// finished. The faults are those of `search`.
-pub fn search_alone<W: Watch>(
+/// finished. The crew may hunt for the verdicts of its plan. The faults are those of `search`.
+pub fn search_alone<W: Watch, C: Crew>(
     alloc: Global,
     problem: Arc<Problem>,
     board: &mut Board,
     most: usize,
     watch: &mut W,
+    crew: &C,
 ) -> Result<Option<Vec<Arc<Witness>>>, Fault>
     requires { board.old.question.test ≡ arc_value problem }
     ensures goes { GoesOn board.old board.new }
@@ -141,7 +142,7 @@ pub fn search_alone<W: Watch>(
 {
     let question = Arc::try_clone(board.question())?;
     let mut scout = Scout::planner(alloc, question, problem);
-    if sweep(alloc, board, &mut scout, Some(most), watch)? {
+    if sweep(alloc, board, &mut scout, Some(most), watch, crew)? {
         return Ok(None);
     }
     Ok(Some(scout.witnesses(alloc)?))

@@ -143,8 +143,7 @@ impl Problem {
         &self.test
     }
 
-    /// What a hunt of the crew finds for the placement, if it doesn't give up; none where that doesn't hold. The error
-    /// is F19.
+    /// What a hunt of the crew finds for the placement, if it doesn't give up; none where that doesn't hold. The error is F19.
     fn hunted<C: Crew>(
         &self,
         alloc: Global,
@@ -167,8 +166,8 @@ impl Problem {
         }
     }
 
-    /// What a hunt of the crew finds for the placement, as far as it holds. The hunt begins with what earlier ones have
-    /// kept; where what it finds doesn't hold, another one begins with nothing. The error is F19.
+    /// What a hunt of the crew finds for the placement, as far as it holds. The hunt begins with what earlier ones have kept; where
+    /// what it finds doesn't hold, another one begins with nothing. The error is F19.
     pub(crate) fn sought<C: Crew>(
         &self,
         alloc: Global,

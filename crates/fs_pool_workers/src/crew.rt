@@ -14,6 +14,7 @@ ghost use Rattle.fs_board_search.specs.Histories.{GoesOn};
 ghost use Rattle.fs_pool_workers.specs.Ends.{GoesOnFrom};
 
 use crate::gate::{Alone, Gate};
+use crate::hunters::Hunters;
 use crate::work::Workplace;
 use fs_board::Board;
 use fs_board_offers::Question;
@@ -185,12 +186,13 @@ fn opened(alloc: Global, question: &Arc<Question>, limit: usize) -> Result<Board
     Board::new(alloc, question, limit)
 }
 
-/// One worker searches the board alone. Where the others are to join now the witnesses that it has met come back; none
+/// One worker searches the board alone, but that others hunt for its verdicts where these take long. Where the others are to join now the witnesses that it has met come back; none
 /// where the board is finished, or has no room left. The faults are those of verdicts, and F19.
-fn begin<G: Gate>(
+fn begin<R: Threads + Wait + Sync, G: Gate>(
     alloc: Global,
     problem: &Arc<Problem>,
     board: &mut Board,
+    hunters: &Hunters<'_, R>,
     gate: &G,
 ) -> Result<Option<Vec<Arc<Witness>>>, Fault>
     requires { board.old.question.test ≡ arc_value problem.now }
@@ -202,7 +204,7 @@ fn begin<G: Gate>(
 {
     let shared = Arc::try_clone(problem)?;
     let most = gate.nodes_alone();
-    match search_alone(alloc, shared, board, most, &mut Alone { gate }) {
+    match search_alone(alloc, shared, board, most, &mut Alone { gate }, hunters) {
         Ok(found) => Ok(found),
         Err(Fault::NodeLimit) => Ok(None),
         Err(fault) => Err(fault),
@@ -239,8 +241,9 @@ pub fn solve<R: Threads + Wait + Sync, G: Gate + Sync>(
         return fs_board_search::solve(alloc, question, limit, &mut Alone { gate });
     }
     let problem = problem_of(alloc, &question)?;
+    let hunters = Hunters::new(rt, workers);
     let mut board = opened(alloc, &question, limit)?;
-    let Some(met) = begin(alloc, &problem, &mut board, gate)? else {
+    let Some(met) = begin(alloc, &problem, &mut board, &hunters, gate)? else {
         let solved = conclude(alloc, problem, board, &mut Unwatched)?;
         return Ok(solved);
     };

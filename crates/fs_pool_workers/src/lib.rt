@@ -5,8 +5,10 @@
 
 mod crew;
 mod gate;
+mod hunters;
 mod work;
 
 pub use crew::solve;
 pub use fs_board_search::{Answer, Solved, Unwatched, Watch, solve as solve_alone};
 pub use gate::{Gate, Open};
+pub use hunters::Hunters;

@@ -5,6 +5,8 @@
 #[cfg(test)]
 mod gates;
 #[cfg(test)]
+mod hunters;
+#[cfg(test)]
 mod logs_compared;
 #[cfg(test)]
 mod logs_read;

@@ -13,13 +13,13 @@ use Rattle.fs_board_search.proofs.Scouts.{known-at, known-still}
 use Rattle.fs_board_search.proofs.scout.Scout.judge_cheapest.Goals as goal
 
 pub returns-in_err-verdict-clause-err : goal.returns-in_err-verdict-clause-err
-returns-in_err-verdict-clause-err c =
+returns-in_err-verdict-clause-err g c =
     candidates-handed c.from_residual-in_err-verdict.result _ c.self.inside.judge c.args.self.now.test
     (c.self.invariant.0 ∙ ap (λ (q : Question). q.test) c.self.view_is)
     c.from_residual-in_err-verdict.ensures.1 c.in_err-verdict.ensures.err
 
 pub invariant_of-self-in_err-found : goal.invariant_of-self-in_err-found
-invariant_of-self-in_err-found c =
+invariant_of-self-in_err-found g c =
     let t = c.self.inside.judge in
     let q = arc_value c.self.inside.question in
     let p = c.in-Some.placement in
@@ -31,7 +31,7 @@ invariant_of-self-in_err-found c =
     c.in_ok-verdict.ensures.value c.self.invariant.0 over (c.in_err-found.ensures.known t p c.in_ok-verdict.ensures.ok known) c.self.invariant.2
 
 pub invariant_of-self-in_default-found : goal.invariant_of-self-in_default-found
-invariant_of-self-in_default-found c =
+invariant_of-self-in_default-found g c =
     let t = c.self.inside.judge in
     let q = arc_value c.self.inside.question in
     let p = c.in-Some.placement in
@@ -43,7 +43,7 @@ invariant_of-self-in_default-found c =
     c.in_ok-verdict.ensures.value c.self.invariant.0 over (c.in_ok-found.ensures.known t p c.in_ok-verdict.ensures.ok known) c.self.invariant.2
 
 pub invariant_of-self-in_err-new : goal.invariant_of-self-in_err-new
-invariant_of-self-in_err-new c =
+invariant_of-self-in_err-new g c =
     let t = c.self.inside.judge in
     let q = arc_value c.self.inside.question in
     let p = c.in-Some.placement in
@@ -55,7 +55,7 @@ invariant_of-self-in_err-new c =
     c.in_ok-verdict.ensures.value c.self.invariant.0 over (c.in_ok-found.ensures.known t p c.in_ok-verdict.ensures.ok known) c.self.invariant.2
 
 pub invariant_of-self-2 : goal.invariant_of-self-2
-invariant_of-self-2 c =
+invariant_of-self-2 g c =
     let t = c.self.inside.judge in
     let q = arc_value c.self.inside.question in
     let p = c.in-Some.placement in

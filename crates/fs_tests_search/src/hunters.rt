@@ -1,0 +1,86 @@
+//! Hunts by several workers.
+
+use crate::workers::answered;
+use fs_board::Board;
+use fs_board_search::{Unwatched, problem_of, search_alone};
+use fs_kinds::Fault;
+use fs_pool_workers::{Hunters, Open};
+use fs_tests_shared::{PRICES, SB, question_of};
+use std::alloc::Global;
+use std::sync::Wait;
+use std::test::Fail;
+use std::thread::Threads;
+
+/// Four harts that each add 1 in a lock by swaps; all have been in, and an addition is lost. The last hunt looks at
+/// thousands of regions.
+const LOCK: &str = "RISCV LOCK
+{
+0:x20=k; 1:x20=k; 2:x20=k; 3:x20=k; 0:x21=1; 1:x21=1; 2:x21=1; 3:x21=1;
+0:x22=d; 1:x22=d; 2:x22=d; 3:x22=d;
+}
+P0 | P1 | P2 | P3 ;
+lw x9,0(x20) | lw x9,0(x20) | lw x9,0(x20) | lw x9,0(x20) ;
+bne x9,x0,OUT | bne x9,x0,OUT | bne x9,x0,OUT | bne x9,x0,OUT ;
+amoswap.w x10,x21,(x20) | amoswap.w x10,x21,(x20) | amoswap.w x10,x21,(x20) | amoswap.w x10,x21,(x20) ;
+bne x10,x0,OUT | bne x10,x0,OUT | bne x10,x0,OUT | bne x10,x0,OUT ;
+lw x13,0(x22) | lw x13,0(x22) | lw x13,0(x22) | lw x13,0(x22) ;
+addi x13,x13,1 | addi x13,x13,1 | addi x13,x13,1 | addi x13,x13,1 ;
+sw x13,0(x22) | sw x13,0(x22) | sw x13,0(x22) | sw x13,0(x22) ;
+sw x0,0(x20) | sw x0,0(x20) | sw x0,0(x20) | sw x0,0(x20) ;
+li x14,1 | li x14,1 | li x14,1 | li x14,1 ;
+OUT: | OUT: | OUT: | OUT: ;
+exists (0:x14=1 /\\ 1:x14=1 /\\ 2:x14=1 /\\ 3:x14=1 /\\ ~d=4)
+";
+
+/// In how many hunts over the test two of so many workers or more have looked at regions.
+fn joint<R: Threads + Wait + Sync>(
+    rt: &R,
+    alloc: Global,
+    text: &str,
+    workers: u8,
+) -> Result<u64, Fault> {
+    let question = question_of(alloc, text, PRICES)?;
+    let problem = problem_of(alloc, &question)?;
+    let mut board = Board::new(alloc, question, 1_000_000)?;
+    let hunters = Hunters::new(rt, workers);
+    search_alone(
+        alloc,
+        problem,
+        &mut board,
+        usize::MAX,
+        &mut Unwatched,
+        &hunters,
+    )?;
+    Ok(hunters.joint())
+}
+
+/// A thread may begin only when the first one is done: then they try again.
+#[test]
+fn two_workers_hunt_for_one_verdict(rt: HostRuntime) -> Result<(), Fail> {
+    let mut is_joint = false;
+    for _ in 0..20 {
+        is_joint = is_joint || joint(&rt, rt.alloc(), LOCK, 2)? > 0;
+    }
+    assert!(rt; is_joint);
+    Ok(())
+}
+
+#[test]
+fn short_hunts_are_hunted_by_one(rt: HostRuntime) -> Result<(), Fail> {
+    assert_eq!(rt; joint(&rt, rt.alloc(), SB, 4)?, 0);
+    assert_eq!(rt; joint(&rt, rt.alloc(), LOCK, 1)?, 0);
+    Ok(())
+}
+
+/// A load of the data before the swap, and a store to it after the lock is free, lose an addition. So each hart needs
+/// `r,r` behind its swap, for 3, and `w,w` before it gives the lock back, for 2.
+#[test]
+fn hunters_find_the_same_fences(rt: HostRuntime) -> Result<(), Fail> {
+    let alone = answered(&rt, rt.alloc(), LOCK, 1, 1_000_000, &Open)?;
+    assert!(rt; alone.starts_with("fenced 20 "));
+    for workers in [2, 3, 16] {
+        let line = answered(&rt, rt.alloc(), LOCK, workers, 1_000_000, &Open)?;
+        assert_eq!(rt; line.as_str(), alone.as_str());
+    }
+    Ok(())
+}
