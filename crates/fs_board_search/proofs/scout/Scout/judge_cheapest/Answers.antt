@@ -27,7 +27,7 @@ invariant_of-self-in_err-found g c =
     subst (λ (o : Option (List Entry)). IfSome o (λ p. slots_of p ≡ slots_in_part c.args.part.now)) c.in-Some.is c.in_ok-cheapest.ensures
     ∙ (c.requires ∙ ap (λ (q : Question). slots q.offers) (sym c.self.view_is)) in
     let known = known-at t (slots_of p) q c.self.inside.store c.self.invariant.0 over c.self.invariant.1 in
-    known-still c.verdict.new.self t (slots_of p) q c.forbidden_or_stored.new.store c.self.inside.planned
+    known-still c.verdict_by.new.self t (slots_of p) q c.forbidden_or_stored.new.store c.self.inside.planned
     c.in_ok-verdict.ensures.value c.self.invariant.0 over (c.in_err-found.ensures.known t p c.in_ok-verdict.ensures.ok known) c.self.invariant.2
 
 pub invariant_of-self-in_default-found : goal.invariant_of-self-in_default-found
@@ -39,7 +39,7 @@ invariant_of-self-in_default-found g c =
     subst (λ (o : Option (List Entry)). IfSome o (λ p. slots_of p ≡ slots_in_part c.args.part.now)) c.in-Some.is c.in_ok-cheapest.ensures
     ∙ (c.requires ∙ ap (λ (q : Question). slots q.offers) (sym c.self.view_is)) in
     let known = known-at t (slots_of p) q c.self.inside.store c.self.invariant.0 over c.self.invariant.1 in
-    known-still c.verdict.new.self t (slots_of p) q c.forbidden_or_stored.new.store c.self.inside.planned
+    known-still c.verdict_by.new.self t (slots_of p) q c.forbidden_or_stored.new.store c.self.inside.planned
     c.in_ok-verdict.ensures.value c.self.invariant.0 over (c.in_ok-found.ensures.known t p c.in_ok-verdict.ensures.ok known) c.self.invariant.2
 
 pub invariant_of-self-in_err-new : goal.invariant_of-self-in_err-new
@@ -51,7 +51,7 @@ invariant_of-self-in_err-new g c =
     subst (λ (o : Option (List Entry)). IfSome o (λ p. slots_of p ≡ slots_in_part c.args.part.now)) c.in-Some.is c.in_ok-cheapest.ensures
     ∙ (c.requires ∙ ap (λ (q : Question). slots q.offers) (sym c.self.view_is)) in
     let known = known-at t (slots_of p) q c.self.inside.store c.self.invariant.0 over c.self.invariant.1 in
-    known-still c.verdict.new.self t (slots_of p) q c.forbidden_or_stored.new.store c.self.inside.planned
+    known-still c.verdict_by.new.self t (slots_of p) q c.forbidden_or_stored.new.store c.self.inside.planned
     c.in_ok-verdict.ensures.value c.self.invariant.0 over (c.in_ok-found.ensures.known t p c.in_ok-verdict.ensures.ok known) c.self.invariant.2
 
 pub invariant_of-self-2 : goal.invariant_of-self-2
@@ -63,7 +63,7 @@ invariant_of-self-2 g c =
     subst (λ (o : Option (List Entry)). IfSome o (λ p. slots_of p ≡ slots_in_part c.args.part.now)) c.in-Some.is c.in_ok-cheapest.ensures
     ∙ (c.requires ∙ ap (λ (q : Question). slots q.offers) (sym c.self.view_is)) in
     let known = known-at t (slots_of p) q c.self.inside.store c.self.invariant.0 over c.self.invariant.1 in
-    let still = known-still c.verdict.new.self t (slots_of p) q c.forbidden_or_stored.new.store c.self.inside.planned
+    let still = known-still c.verdict_by.new.self t (slots_of p) q c.forbidden_or_stored.new.store c.self.inside.planned
     c.in_ok-verdict.ensures.value c.self.invariant.0 over (c.in_ok-found.ensures.known t p c.in_ok-verdict.ensures.ok known) c.self.invariant.2 in
     let postable : IsPostable t c.in-Some-found.forbidden =
     subst (λ (found : Option Refuted). IfSome found (IsPostable t)) c.in-Some-found.is (c.in_ok-found.ensures.ok t _ c.in_ok-verdict.ensures.ok) in (
