@@ -219,7 +219,8 @@ impl Scout {
         watch: &mut W,
         crew: &C,
     ) -> Result<(), Fault>
-        requires { slots_in_part (arc_value taken.now.part) ≡ slots self.old.offers }
+        requires crew { C.may_hunt }
+        requires slots { slots_in_part (arc_value taken.now.part) ≡ slots self.old.offers }
         ensures value { self.new ≡ self.old }
         ensures err { IfErr result (λ f. f ≢ Fault.Memory → IsCandidateFault self.old.test f) }
     {
@@ -235,7 +236,8 @@ impl Scout {
 
     /// One round of what `prepare` does, where the plan is still to be made.
     fn plan<C: Crew>(&mut self, alloc: Global, taken: &Taken, crew: &C) -> Result<(), Fault>
-        requires { slots_in_part (arc_value taken.now.part) ≡ slots self.old.offers }
+        requires crew { C.may_hunt }
+        requires slots { slots_in_part (arc_value taken.now.part) ≡ slots self.old.offers }
         ensures value { self.new ≡ self.old }
         ensures err { IfErr result (λ f. f ≢ Fault.Memory → IsCandidateFault self.old.test f) }
     {
@@ -258,7 +260,8 @@ impl Scout {
         part: &Part,
         crew: &C,
     ) -> Result<bool, Fault>
-        requires { slots_in_part part.now ≡ slots self.old.offers }
+        requires crew { C.may_hunt }
+        requires slots { slots_in_part part.now ≡ slots self.old.offers }
         ensures value { self.new ≡ self.old }
         ensures err { IfErr result (λ f. f ≢ Fault.Memory → IsCandidateFault self.old.test f) }
     {

@@ -73,7 +73,8 @@ fn sweep<W: Watch, C: Crew>(
     watch: &mut W,
     crew: &C,
 ) -> Result<bool, Fault>
-    requires { board.old.question ≡ scout.old }
+    requires crew { C.may_hunt }
+    requires same { board.old.question ≡ scout.old }
     ensures scout { scout.new ≡ scout.old }
     ensures goes { GoesOn board.old board.new }
     ensures all { IfOk result (λ all. IfNone alone (all ≡ true)) }
@@ -132,7 +133,8 @@ pub fn search_alone<W: Watch, C: Crew>(
     watch: &mut W,
     crew: &C,
 ) -> Result<Option<Vec<Arc<Witness>>>, Fault>
-    requires { board.old.question.test ≡ arc_value problem }
+    requires crew { C.may_hunt }
+    requires same { board.old.question.test ≡ arc_value problem }
     ensures goes { GoesOn board.old board.new }
     ensures met { IfOk result
         (λ found. IfSome found

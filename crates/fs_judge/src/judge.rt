@@ -145,6 +145,7 @@ impl Judge {
         first: &[Slot],
         crew: &C,
     ) -> Result<Verdict, Fault>
+        requires { C.may_hunt }
         ensures value { self.new ≡ self.old }
         ensures ok { IfOk result (IsVerdict self.old placement.now) }
         ensures err { IfErr result (λ f. f ≢ Memory → IsCandidateFault self.old f) }

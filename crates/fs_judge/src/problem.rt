@@ -151,6 +151,7 @@ impl Problem {
         placement: &Placement,
         crew: &C,
     ) -> Result<Option<Sought>, Fault>
+        requires { C.may_hunt }
         ensures ok { IfOk result (λ found. IfSome found (IsSought self.now placement.now)) }
         ensures err { IsOkUnless result Memory }
     {
@@ -175,6 +176,7 @@ impl Problem {
         placement: &Placement,
         crew: &C,
     ) -> Result<Sought, Fault>
+        requires { C.may_hunt }
         ensures ok { IfOk result (IsSought self.now placement.now) }
         ensures err { IsOkUnless result Memory }
     {

@@ -46,12 +46,16 @@ pub struct Left {
 
 /// Those who may hunt for a verdict.
 pub trait Crew {
+    /// What lets several hunt: that threads may share what they need.
+    ghost may_hunt: { Type 0 };
+
     /// Is it one alone?
     fn is_alone(&self) -> bool;
 
     /// They hunt in the piece, and in what each gives to the others, until all is done or something is found. No answer
     /// depends on how; a call of it that doesn't return stops the search.
-    fn hunt(&self, alloc: Global, chase: &Chase<'_>, piece: Piece) -> Result<Left, AllocError>;
+    fn hunt(&self, alloc: Global, chase: &Chase<'_>, piece: Piece) -> Result<Left, AllocError>
+        requires { may_hunt };
 }
 
 /// One who hunts alone.
@@ -59,6 +63,8 @@ pub trait Crew {
 pub struct Alone;
 
 impl Crew for Alone {
+    ghost may_hunt = { Unit {0} };
+
     fn is_alone(&self) -> bool {
         true
     }
@@ -116,7 +122,9 @@ impl Chase<'_> {
         alloc: Global,
         mut search: Search,
         crew: &C,
-    ) -> Result<(Option<Search>, Hunted), AllocError> {
+    ) -> Result<(Option<Search>, Hunted), AllocError>
+        requires { C.may_hunt }
+    {
         let limits = Limits::of(self.most);
         if crew.is_alone() {
             let hunted = search.hunt(alloc, self.field(), limits)?;
@@ -139,7 +147,9 @@ impl Chase<'_> {
         alloc: Global,
         kept: &mut Kept,
         crew: &C,
-    ) -> Result<Found, AllocError> {
+    ) -> Result<Found, AllocError>
+        requires { C.may_hunt }
+    {
         let field = self.field();
         let Some(search) = self.hunter.search(alloc, field, kept)? else {
             return Ok(Found::Refuted(List::new(Vec::<Inference>::new(alloc))));

@@ -254,6 +254,7 @@ impl Hunter {
         most: usize,
         crew: &C,
     ) -> Result<Found, Fault>
+        requires { C.may_hunt }
         ensures err { IsOkUnless result Memory }
     {
         match self.hunt_on(alloc, kept, placement, most, crew)? {
@@ -271,7 +272,9 @@ impl Hunter {
         placement: &Placement,
         most: usize,
         crew: &C,
-    ) -> Result<Found, AllocError> {
+    ) -> Result<Found, AllocError>
+        requires { C.may_hunt }
+    {
         let fenced = all_fenced(alloc, &self.runs.harts, placement)?;
         let chase = Chase {
             hunter: self,

@@ -1,6 +1,8 @@
 //! Several workers who hunt for one verdict, each in a thread of its own. One hunts; where another has nothing to do it
 //! gives a piece to the room, from which that takes it. What they find is checked as what one finds.
 
+ghost use Rattle.std.specs.Thread.{IsSync};
+
 use fs_board_search::{Chase, Crew, Learned, Left, Others, Piece};
 use std::alloc::{AllocError, Global};
 use std::sync::atomic::{AtomicU64, AtomicUsize, Ordering};
@@ -244,10 +246,10 @@ impl<'r, R: Threads + Wait + Sync> Hunters<'r, R> {
 
     /// Counts a hunt in which they have looked at so many regions each.
     fn note(&self, looks: &[usize]) {
-        let mut hunters = 0;
+        let mut hunters: usize = 0;
         for one in looks {
             if *one > 0 {
-                hunters += 1;
+                hunters = hunters.saturating_add(1);
             }
         }
         if hunters > 1 {
@@ -276,6 +278,8 @@ fn left(room: Room) -> Result<Left, AllocError> {
 }
 
 impl<R: Threads + Wait + Sync> Crew for Hunters<'_, R> {
+    ghost may_hunt = { IsSync R.row };
+
     fn is_alone(&self) -> bool {
         self.workers < 2
     }

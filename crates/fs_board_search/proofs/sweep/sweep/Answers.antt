@@ -11,5 +11,5 @@ returns-in_err-finish_node-clause-err g c =
 
 pub returns-in_err-prepare-clause-err : goal.returns-in_err-prepare-clause-err
 returns-in_err-prepare-clause-err g c =
-    search-handed c.from_residual-in_err-prepare.result _ c.args.board.now c.loop-alloc.scout (c.requires ∙ sym c.loop-alloc.invariant.scout)
+    search-handed c.from_residual-in_err-prepare.result _ c.args.board.now c.loop-alloc.scout (c.requires.same ∙ sym c.loop-alloc.invariant.scout)
     c.from_residual-in_err-prepare.ensures.1 c.in_err-prepare.ensures.err

@@ -25,7 +25,7 @@ invariant_of-self-in_err-found g c =
     let p = c.in-Some.placement in
     let over : slots_of p ≡ slots q.offers =
     subst (λ (o : Option (List Entry)). IfSome o (λ p. slots_of p ≡ slots_in_part c.args.part.now)) c.in-Some.is c.in_ok-cheapest.ensures
-    ∙ (c.requires ∙ ap (λ (q : Question). slots q.offers) (sym c.self.view_is)) in
+    ∙ (c.requires.slots ∙ ap (λ (q : Question). slots q.offers) (sym c.self.view_is)) in
     let known = known-at t (slots_of p) q c.self.inside.store c.self.invariant.0 over c.self.invariant.1 in
     known-still c.verdict_by.new.self t (slots_of p) q c.forbidden_or_stored.new.store c.self.inside.planned
     c.in_ok-verdict.ensures.value c.self.invariant.0 over (c.in_err-found.ensures.known t p c.in_ok-verdict.ensures.ok known) c.self.invariant.2
@@ -37,7 +37,7 @@ invariant_of-self-in_default-found g c =
     let p = c.in-Some.placement in
     let over : slots_of p ≡ slots q.offers =
     subst (λ (o : Option (List Entry)). IfSome o (λ p. slots_of p ≡ slots_in_part c.args.part.now)) c.in-Some.is c.in_ok-cheapest.ensures
-    ∙ (c.requires ∙ ap (λ (q : Question). slots q.offers) (sym c.self.view_is)) in
+    ∙ (c.requires.slots ∙ ap (λ (q : Question). slots q.offers) (sym c.self.view_is)) in
     let known = known-at t (slots_of p) q c.self.inside.store c.self.invariant.0 over c.self.invariant.1 in
     known-still c.verdict_by.new.self t (slots_of p) q c.forbidden_or_stored.new.store c.self.inside.planned
     c.in_ok-verdict.ensures.value c.self.invariant.0 over (c.in_ok-found.ensures.known t p c.in_ok-verdict.ensures.ok known) c.self.invariant.2
@@ -49,7 +49,7 @@ invariant_of-self-in_err-new g c =
     let p = c.in-Some.placement in
     let over : slots_of p ≡ slots q.offers =
     subst (λ (o : Option (List Entry)). IfSome o (λ p. slots_of p ≡ slots_in_part c.args.part.now)) c.in-Some.is c.in_ok-cheapest.ensures
-    ∙ (c.requires ∙ ap (λ (q : Question). slots q.offers) (sym c.self.view_is)) in
+    ∙ (c.requires.slots ∙ ap (λ (q : Question). slots q.offers) (sym c.self.view_is)) in
     let known = known-at t (slots_of p) q c.self.inside.store c.self.invariant.0 over c.self.invariant.1 in
     known-still c.verdict_by.new.self t (slots_of p) q c.forbidden_or_stored.new.store c.self.inside.planned
     c.in_ok-verdict.ensures.value c.self.invariant.0 over (c.in_ok-found.ensures.known t p c.in_ok-verdict.ensures.ok known) c.self.invariant.2
@@ -61,7 +61,7 @@ invariant_of-self-2 g c =
     let p = c.in-Some.placement in
     let over : slots_of p ≡ slots q.offers =
     subst (λ (o : Option (List Entry)). IfSome o (λ p. slots_of p ≡ slots_in_part c.args.part.now)) c.in-Some.is c.in_ok-cheapest.ensures
-    ∙ (c.requires ∙ ap (λ (q : Question). slots q.offers) (sym c.self.view_is)) in
+    ∙ (c.requires.slots ∙ ap (λ (q : Question). slots q.offers) (sym c.self.view_is)) in
     let known = known-at t (slots_of p) q c.self.inside.store c.self.invariant.0 over c.self.invariant.1 in
     let still = known-still c.verdict_by.new.self t (slots_of p) q c.forbidden_or_stored.new.store c.self.inside.planned
     c.in_ok-verdict.ensures.value c.self.invariant.0 over (c.in_ok-found.ensures.known t p c.in_ok-verdict.ensures.ok known) c.self.invariant.2 in
