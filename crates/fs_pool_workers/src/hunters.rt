@@ -238,7 +238,9 @@ impl<'r, R: Threads + Wait + Sync> Hunters<'r, R> {
             joint: AtomicU64::new(0),
         }
     }
+}
 
+impl<R> Hunters<'_, R> {
     /// In how many hunts so far at least two have looked at regions.
     pub fn joint(&self) -> u64 {
         self.joint.load(Ordering::Relaxed)
