@@ -17,7 +17,7 @@ mod taken;
 mod watch;
 
 pub use answer::{Answer, Solved};
-pub use fs_judge::{Chase, Crew, Learned, Left, Others, Piece, Problem};
+pub use fs_judge::{Chase, Crew, Learned, Left, Others, Piece, Problem, Team};
 pub use scout::{Scout, TRIES, Way};
 pub use solving::{cheapest, conclude, problem_of, solve, solve_problem};
 pub use sweep::{search, search_alone};

@@ -26,7 +26,7 @@ use crate::watch::Watch;
 use fs_board::{Decision, Event, Part, Reply};
 use fs_board_offers::{Offers, Question, is_same};
 use fs_cert_evidence::{Forbidden, Witness};
-use fs_judge::{Crew, Judge, Problem, Verdict};
+use fs_judge::{Judge, Problem, Team, Verdict};
 use fs_kinds::{Fault, Kind, List, Placement, Slot};
 use std::alloc::{AllocError, Global};
 use std::marker::Model;
@@ -211,15 +211,15 @@ impl Scout {
     /// Makes the plan, where one is still to be made: the cheapest placement that breaks all stored witnesses is
     /// judged, and where it allows the outcome, a witness is stored, and so on. One that forbids it is the plan. The
     /// node is any of the board. There is no plan where no placement breaks all witnesses, and where it takes too long.
-    /// The watch is told of each round; the crew may hunt for its verdicts.
-    pub fn prepare<W: Watch, C: Crew>(
+    /// The watch is told of each round; the team may hunt for its verdicts.
+    pub fn prepare<W: Watch, T: Team>(
         &mut self,
         alloc: Global,
         taken: &Taken,
         watch: &mut W,
-        crew: &C,
+        team: &T,
     ) -> Result<(), Fault>
-        requires crew { C.may_hunt }
+        requires team { T.may_hunt }
         requires slots { slots_in_part (arc_value taken.now.part) ≡ slots self.old.offers }
         ensures value { self.new ≡ self.old }
         ensures err { IfErr result (λ f. f ≢ Fault.Memory → IsCandidateFault self.old.test f) }
@@ -229,14 +229,14 @@ impl Scout {
                 break;
             }
             watch.planned();
-            self.plan(alloc, taken, crew)?;
+            self.plan(alloc, taken, team)?;
         }
         Ok(())
     }
 
     /// One round of what `prepare` does, where the plan is still to be made.
-    fn plan<C: Crew>(&mut self, alloc: Global, taken: &Taken, crew: &C) -> Result<(), Fault>
-        requires crew { C.may_hunt }
+    fn plan<T: Team>(&mut self, alloc: Global, taken: &Taken, team: &T) -> Result<(), Fault>
+        requires team { T.may_hunt }
         requires slots { slots_in_part (arc_value taken.now.part) ≡ slots self.old.offers }
         ensures value { self.new ≡ self.old }
         ensures err { IfErr result (λ f. f ≢ Fault.Memory → IsCandidateFault self.old.test f) }
@@ -244,7 +244,7 @@ impl Scout {
         if self.rounds == 0 {
             return Ok(());
         }
-        let is_last = self.judge_cheapest(alloc, &taken.part, crew)?;
+        let is_last = self.judge_cheapest(alloc, &taken.part, team)?;
         self.rounds = if is_last {
             0
         } else {
@@ -254,13 +254,13 @@ impl Scout {
     }
 
     /// Judges the cheapest placement that breaks all stored witnesses. True where the plan needs no other round.
-    fn judge_cheapest<C: Crew>(
+    fn judge_cheapest<T: Team>(
         &mut self,
         alloc: Global,
         part: &Part,
-        crew: &C,
+        team: &T,
     ) -> Result<bool, Fault>
-        requires crew { C.may_hunt }
+        requires team { T.may_hunt }
         requires slots { slots_in_part part.now ≡ slots self.old.offers }
         ensures value { self.new ≡ self.old }
         ensures err { IfErr result (λ f. f ≢ Fault.Memory → IsCandidateFault self.old.test f) }
@@ -272,7 +272,7 @@ impl Scout {
         let Some(placement) = cheapest else {
             return Ok(true);
         };
-        let verdict = self.judge.verdict_by(alloc, &placement, &[], crew)?;
+        let verdict = self.judge.verdict_by(alloc, &placement, &[], team)?;
         let found = forbidden_or_stored(alloc, offers, &mut self.store, part, verdict)?;
         let Some(forbidden) = found else {
             return Ok(false);

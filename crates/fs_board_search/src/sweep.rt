@@ -15,7 +15,7 @@ use crate::{Child, Scout, TRIES, Taken, Watch};
 use fs_board::Board;
 use fs_board_offers::cost;
 use fs_cert_evidence::Witness;
-use fs_judge::{Alone, Crew, Problem};
+use fs_judge::{Alone, Problem, Team};
 use fs_kinds::Fault;
 use std::alloc::Global;
 use std::sync::Arc;
@@ -65,15 +65,15 @@ fn may_stop(scout: &Scout, alone: Option<usize>, nodes: usize) -> bool
 /// Searches until the board is finished, and then it is true; or, where the worker is alone for so many nodes at most,
 /// until it is done with these, or others may help.
 #[tactic(auto, using(crate::proofs::Stopping::stopped))]
-fn sweep<W: Watch, C: Crew>(
+fn sweep<W: Watch, T: Team>(
     alloc: Global,
     board: &mut Board,
     scout: &mut Scout,
     alone: Option<usize>,
     watch: &mut W,
-    crew: &C,
+    team: &T,
 ) -> Result<bool, Fault>
-    requires crew { C.may_hunt }
+    requires team { T.may_hunt }
     requires same { board.old.question ≡ scout.old }
     ensures scout { scout.new ≡ scout.old }
     ensures goes { GoesOn board.old board.new }
@@ -88,7 +88,7 @@ fn sweep<W: Watch, C: Crew>(
             return Ok(true);
         };
         watch.searched(board.len(), best_cost(board));
-        scout.prepare(alloc, &taken, watch, crew)?;
+        scout.prepare(alloc, &taken, watch, team)?;
         finish_node(alloc, board, scout, &mut children, &taken)?;
         nodes = nodes.saturating_add(1);
     }
@@ -124,16 +124,16 @@ pub fn search<W: Watch>(
 
 /// Searches as `search` does, but stops when it is done with so many nodes, or where judging takes so long that other
 /// workers may help: then no node is held by it, and the witnesses that it has met come back. None where the board is
-/// finished. The crew may hunt for the verdicts of its plan. The faults are those of `search`.
-pub fn search_alone<W: Watch, C: Crew>(
+/// finished. The team may hunt for the verdicts of its plan. The faults are those of `search`.
+pub fn search_alone<W: Watch, T: Team>(
     alloc: Global,
     problem: Arc<Problem>,
     board: &mut Board,
     most: usize,
     watch: &mut W,
-    crew: &C,
+    team: &T,
 ) -> Result<Option<Vec<Arc<Witness>>>, Fault>
-    requires crew { C.may_hunt }
+    requires team { T.may_hunt }
     requires same { board.old.question.test ≡ arc_value problem }
     ensures goes { GoesOn board.old board.new }
     ensures met { IfOk result
@@ -144,7 +144,7 @@ pub fn search_alone<W: Watch, C: Crew>(
 {
     let question = Arc::try_clone(board.question())?;
     let mut scout = Scout::planner(alloc, question, problem);
-    if sweep(alloc, board, &mut scout, Some(most), watch, crew)? {
+    if sweep(alloc, board, &mut scout, Some(most), watch, team)? {
         return Ok(None);
     }
     Ok(Some(scout.witnesses(alloc)?))

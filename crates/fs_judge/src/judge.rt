@@ -11,9 +11,10 @@ ghost use Rattle.fs_judge.specs.inner.Bases.{IsKnown};
 use crate::known::Known;
 use crate::problem::Problem;
 use crate::sought::Sought;
+use crate::team::Team;
 use crate::verdict::Verdict;
 use fs_cert_evidence::Witness;
-use fs_judge_hunt::{Alone, Crew, Kept};
+use fs_judge_hunt::{Alone, Kept};
 use fs_kinds::{Fault, Placement, Slot};
 use fs_model::Test;
 use std::alloc::Global;
@@ -135,17 +136,17 @@ impl Judge {
         self.verdict_by(alloc, placement, first, &Alone)
     }
 
-    /// The same, where the crew may hunt: others join where one has looked at 300 regions. What is found is checked as
-    /// any hunt's is. Which witness or refutation it is depends on their turns, whether it is a witness doesn't; but
+    /// The same, where the team may hunt: others join where one has looked at 300 regions. What is found is checked as
+    /// any hunt's is, by all where there are 1,000 inferences. Which witness or refutation it is depends on their turns, whether it is a witness doesn't; but
     /// near the 1,000,000 inferences whether F15 comes may.
-    pub fn verdict_by<C: Crew>(
+    pub fn verdict_by<T: Team>(
         &mut self,
         alloc: Global,
         placement: &Placement,
         first: &[Slot],
-        crew: &C,
+        team: &T,
     ) -> Result<Verdict, Fault>
-        requires { C.may_hunt }
+        requires { T.may_hunt }
         ensures value { self.new ≡ self.old }
         ensures ok { IfOk result (IsVerdict self.old placement.now) }
         ensures err { IfErr result (λ f. f ≢ Memory → IsCandidateFault self.old f) }
@@ -153,7 +154,7 @@ impl Judge {
         if let Some(witness) = self.look(alloc, placement, first)? {
             return Ok(Verdict::Allowed(witness));
         }
-        match self.problem.sought(alloc, &mut self.kept, placement, crew)? {
+        match self.problem.sought(alloc, &mut self.kept, placement, team)? {
             Sought::Refuted(inferences) => self.problem.refuted(placement, inferences),
             Sought::Shown(known) => {
                 let slots = widened_first(first, self.kept.borne());

@@ -11,9 +11,11 @@ mod links;
 mod listed;
 mod problem;
 mod sought;
+mod team;
 mod verdict;
 
 pub use fs_judge_hunt::{Alone, Chase, Crew, Learned, Left, Others, Piece};
 pub use judge::Judge;
 pub use problem::Problem;
+pub use team::Team;
 pub use verdict::Verdict;

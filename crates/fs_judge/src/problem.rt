@@ -16,10 +16,11 @@ ghost use Rattle.fs_judge.specs.inner.Findings.{IsSought};
 use crate::known::Known;
 use crate::listed::verdict_by_list;
 use crate::sought::{Sought, checked, refuted};
+use crate::team::Team;
 use crate::verdict::{Verdict, forbidden};
 use fs_cand_listing::check_number;
 use fs_cert_evidence::{Cycles, Inference};
-use fs_judge_hunt::{Alone, Crew, Found, Hunter, Kept};
+use fs_judge_hunt::{Alone, Found, Hunter, Kept};
 use fs_judge_runs::{hunter_asking, hunter_of};
 use fs_kinds::{Fault, List, Placement, Slot};
 use fs_model::Test;
@@ -143,48 +144,49 @@ impl Problem {
         &self.test
     }
 
-    /// What a hunt of the crew finds for the placement, if it doesn't give up; none where that doesn't hold. The error is F19.
-    fn hunted<C: Crew>(
+    /// What a hunt of the team finds for the placement, if it doesn't give up; none where that doesn't hold. The error
+    /// is F19.
+    fn hunted<T: Team>(
         &self,
         alloc: Global,
         kept: &mut Kept,
         placement: &Placement,
-        crew: &C,
+        team: &T,
     ) -> Result<Option<Sought>, Fault>
-        requires { C.may_hunt }
+        requires { T.may_hunt }
         ensures ok { IfOk result (λ found. IfSome found (IsSought self.now placement.now)) }
         ensures err { IsOkUnless result Memory }
     {
         let found = self
             .hunter
-            .hunt_by(alloc, kept, placement, MOST_INFERENCES, crew)?;
+            .hunt_by(alloc, kept, placement, MOST_INFERENCES, team)?;
         if matches!(&found, Found::GaveUp) {
             return Ok(Some(Sought::Nothing));
         }
-        match checked(alloc, &self.basis, placement, found)? {
+        match checked(alloc, &self.basis, placement, found, team)? {
             Sought::Nothing => Ok(None),
             sought => Ok(Some(sought)),
         }
     }
 
-    /// What a hunt of the crew finds for the placement, as far as it holds. The hunt begins with what earlier ones have kept; where
-    /// what it finds doesn't hold, another one begins with nothing. The error is F19.
-    pub(crate) fn sought<C: Crew>(
+    /// What a hunt of the team finds for the placement, as far as it holds. The hunt begins with what earlier ones have
+    /// kept; where what it finds doesn't hold, another one begins with nothing. The error is F19.
+    pub(crate) fn sought<T: Team>(
         &self,
         alloc: Global,
         kept: &mut Kept,
         placement: &Placement,
-        crew: &C,
+        team: &T,
     ) -> Result<Sought, Fault>
-        requires { C.may_hunt }
+        requires { T.may_hunt }
         ensures ok { IfOk result (IsSought self.now placement.now) }
         ensures err { IsOkUnless result Memory }
     {
-        if let Some(sought) = self.hunted(alloc, kept, placement, crew)? {
+        if let Some(sought) = self.hunted(alloc, kept, placement, team)? {
             return Ok(sought);
         }
         kept.refuse();
-        match self.hunted(alloc, kept, placement, crew)? {
+        match self.hunted(alloc, kept, placement, team)? {
             Some(sought) => Ok(sought),
             None => Ok(Sought::Nothing),
         }
@@ -271,7 +273,7 @@ impl Problem {
         ensures err { IfErr result (λ f. f ≢ Memory → IsCandidateFault self.now f) }
     {
         let found = self.hunter.first(alloc, placement, MOST_INFERENCES)?;
-        match checked(alloc, &self.basis, placement, found)? {
+        match checked(alloc, &self.basis, placement, found, &Alone)? {
             Sought::Refuted(inferences) => self.refuted(placement, inferences),
             Sought::Shown(known) => self.shown(alloc, &known, placement, first),
             Sought::Nothing => self.by_list(alloc, placement, first),
@@ -290,10 +292,10 @@ impl Problem {
         ensures err { IsOkUnless result Memory }
     {
         let found = self.hunter.hunt(alloc, &mut Kept::new(), placement, most)?;
-        let Found::Refuted(inferences) = found else {
+        let Found::Refuted(refutation) = found else {
             return Ok(false);
         };
-        match refuted(alloc, &self.basis, placement, inferences)? {
+        match refuted(alloc, &self.basis, placement, refutation, &Alone)? {
             Sought::Refuted(_) => Ok(true),
             _ => Ok(false),
         }

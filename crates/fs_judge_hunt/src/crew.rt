@@ -3,12 +3,12 @@
 use crate::frames::{Ground, Hunted, Limits, Search};
 use crate::gathered::gathered;
 use crate::hunter::{Found, Hunter, Kept};
+use crate::inferences::Refutation;
 use crate::learned::Learned;
 use crate::pieces::Piece;
 use crate::region::Field;
 use crate::rules::Rule;
-use fs_cert_evidence::Inference;
-use fs_kinds::{List, Placement};
+use fs_kinds::Placement;
 use std::alloc::{AllocError, Global};
 
 /// So many regions are looked at by one, before others join.
@@ -152,7 +152,7 @@ impl Chase<'_> {
     {
         let field = self.field();
         let Some(search) = self.hunter.search(alloc, field, kept)? else {
-            return Ok(Found::Refuted(List::new(Vec::<Inference>::new(alloc))));
+            return Ok(Found::Refuted(Refutation::empty(alloc)));
         };
         let (search, hunted) = self.hunted(alloc, search, crew)?;
         let Some(search) = search else {

@@ -10,13 +10,12 @@ use crate::fences::{all_fenced, pairs_at};
 use crate::first::hunt_first;
 use crate::frames::{Hunted, Limits, Search};
 use crate::hart::{Hart, may_store_often};
-use crate::inferences::refutation;
+use crate::inferences::{Refutation, refutation};
 use crate::needs::Fences;
 use crate::region::Field;
 use crate::rules::Rule;
 use crate::witness::{Execution, execution_of};
-use fs_cert_evidence::Inference;
-use fs_kinds::{Fault, Kind, List, MOST_LOCATIONS, OperationName, Placement, Slot};
+use fs_kinds::{Fault, Kind, MOST_LOCATIONS, OperationName, Placement, Slot};
 use fs_model::Test;
 use std::alloc::{AllocError, Global};
 use std::sync::Arc;
@@ -110,8 +109,8 @@ impl Kept {
 /// What a hunt comes to.
 #[derive(Drop)]
 pub enum Found {
-    /// The inferences of a refutation, a whole tree in preorder.
-    Refuted(List<Inference>),
+    /// A refutation.
+    Refuted(Refutation),
     /// An execution that shows the outcome.
     Shown(Execution),
     /// The tree would have more inferences than it may.
@@ -204,7 +203,7 @@ impl Hunter {
         let _ = &self.condition;
         match hunted {
             Hunted::Refuted => Ok(match refutation(alloc, field, &search.tree, most)? {
-                Some(inferences) => Found::Refuted(List::new(inferences)),
+                Some(refutation) => Found::Refuted(refutation),
                 None => Found::GaveUp,
             }),
             Hunted::Shown(region) => Ok(Found::Shown(execution_of(alloc, field, &region)?)),
@@ -362,7 +361,7 @@ impl Hunter {
 
     fn first_in(&self, alloc: Global, field: Field<'_>, most: usize) -> Result<Found, AllocError> {
         let Some(root) = field.root(alloc, self.condition.truth)? else {
-            return Ok(Found::Refuted(List::new(Vec::new(alloc))));
+            return Ok(Found::Refuted(Refutation::empty(alloc)));
         };
         let mut search = Search::new(alloc, root.copy(alloc)?)?;
         let hunted = hunt_first(alloc, field, &mut search, root, Limits::of(most))?;

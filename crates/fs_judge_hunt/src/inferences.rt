@@ -7,7 +7,28 @@ use crate::region::Field;
 use crate::splits::Decision;
 use crate::tree::{Branching, Leaf, Tree};
 use fs_cert_evidence::Inference;
+use fs_kinds::List;
 use std::alloc::{AllocError, Global};
+
+/// A tree of inferences.
+#[derive(Drop)]
+pub struct Refutation {
+    /// The whole tree in preorder.
+    pub inferences: List<Inference>,
+    /// Beside each of them how many stand in the part of the tree that begins with it, itself included; 0 where that
+    /// isn't known. Who looks at parts apart finds them by this.
+    pub sizes: Vec<u32>,
+}
+
+impl Refutation {
+    /// Of a test that has no candidate with the outcome, so that nothing is to be shown.
+    pub(crate) fn empty(alloc: Global) -> Refutation {
+        Refutation {
+            inferences: List::new(Vec::new(alloc)),
+            sizes: Vec::new(alloc),
+        }
+    }
+}
 
 /// A node whose parts are written.
 #[derive(Drop)]
@@ -34,18 +55,44 @@ struct Writer<'a> {
     placed: SlotPairs,
     stack: Vec<Frame>,
     written: Vec<Inference>,
+    sizes: Vec<u32>,
 }
 
 impl Writer<'_> {
-    fn write_clash(&mut self, clash: &Clash) -> Result<(), AllocError> {
-        let inference = clash.inference(self.alloc, self.field)?;
+    fn write(&mut self, inference: Inference) -> Result<(), AllocError> {
         self.written.push(inference)?;
+        self.sizes.push(0)?;
         Ok(())
     }
 
+    fn write_clash(&mut self, clash: &Clash) -> Result<(), AllocError> {
+        let inference = clash.inference(self.alloc, self.field)?;
+        self.write(inference)
+    }
+
     fn write_decision(&mut self, decision: Decision) -> Result<(), AllocError> {
-        self.written.push(decision.inference(self.field))?;
-        Ok(())
+        self.write(decision.inference(self.field))
+    }
+
+    /// What was written, the first one first.
+    fn whole(self) -> Refutation {
+        let Writer { written, sizes, .. } = self;
+        let mut inferences = written;
+        inferences.reverse();
+        let mut sizes = sizes;
+        sizes.reverse();
+        Refutation {
+            inferences: List::new(inferences),
+            sizes,
+        }
+    }
+
+    /// All that was written since then is one part of the tree.
+    fn note_size(&mut self, start: usize) {
+        let size = self.written.len().saturating_sub(start);
+        if let Some(last) = self.sizes.last_mut() {
+            *last = u32::try_from(size).unwrap_or(0);
+        }
     }
 
     /// Writes the step of a region, if it is used and wasn't known before. Where the other order was known, what ends
@@ -65,6 +112,7 @@ impl Writer<'_> {
             *used = step.ending.used.relation();
             used.add(second, first);
             self.written.truncate(start);
+            self.sizes.truncate(start);
             return self.write_clash(&step.ending.clash);
         }
         used.remove(first, second);
@@ -89,6 +137,7 @@ impl Writer<'_> {
         for place in 0..steps.len() {
             self.write_step(&steps[steps.len() - 1 - place], start, before, &mut used)?;
         }
+        self.note_size(start);
         self.hand_up(&used);
         Ok(())
     }
@@ -144,6 +193,7 @@ impl Writer<'_> {
         if let Some(branching) = tree.branching(frame.node) {
             self.write_split(branching, &frame, &mut used)?;
         }
+        self.note_size(frame.start);
         self.hand_up(&used);
         Ok(())
     }
@@ -175,14 +225,14 @@ impl Writer<'_> {
     }
 }
 
-/// The inferences by which the tree refutes its root with the fences of the field, the first one first; nothing where
-/// there are more than so many.
+/// The inferences by which the tree refutes its root with the fences of the field; nothing where there are more than so
+/// many.
 pub(crate) fn refutation(
     alloc: Global,
     field: Field<'_>,
     tree: &Tree,
     most: usize,
-) -> Result<Option<Vec<Inference>>, AllocError> {
+) -> Result<Option<Refutation>, AllocError> {
     let mut writer = Writer {
         alloc,
         field,
@@ -190,6 +240,7 @@ pub(crate) fn refutation(
         placed: field.fences.pairs,
         stack: Vec::new(alloc),
         written: Vec::new(alloc),
+        sizes: Vec::new(alloc),
     };
     writer.enter(0, tree.start)?;
     for _ in 0..most.saturating_mul(4).saturating_add(8) {
@@ -199,7 +250,5 @@ pub(crate) fn refutation(
         writer.advance()?;
     }
     let is_whole = writer.stack.is_empty() && writer.written.len() <= most;
-    let mut written = writer.written;
-    written.reverse();
-    Ok(if is_whole { Some(written) } else { None })
+    Ok(if is_whole { Some(writer.whole()) } else { None })
 }

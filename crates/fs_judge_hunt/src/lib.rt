@@ -51,6 +51,7 @@ pub use fences::written;
 pub use forms::{Form, Outline};
 pub use hart::Hart;
 pub use hunter::{Found, Hunter, Kept};
+pub use inferences::Refutation;
 pub use learned::Learned;
 pub use pieces::Piece;
 pub use rows::{Group, Row, both, do_meet, has_all, is_empty, join, no_run, put, words_for};

@@ -1,9 +1,14 @@
-//! Several workers who hunt for one verdict, each in a thread of its own. One hunts; where another has nothing to do it
-//! gives a piece to the room, from which that takes it. What they find is checked as what one finds.
+//! Several workers who judge one placement, each in a thread of its own. One hunts; where another has nothing to do it
+//! gives a piece to the room, from which that takes it. What they find is checked as what one finds; at the subtrees of
+//! a large refutation they look in turn.
 
+ghost use Rattle.std.specs.Prelude.{◌≡◌, ◌<◌, ℕ, Ok, true, length, IfOk};
+ghost use Rattle.std.specs.List.{slice_index_or};
 ghost use Rattle.std.specs.Thread.{IsSync};
+ghost use Rattle.fs_region_refutation.specs.Subtrees.{AreOfTheTest, AreRefutedInTurn};
 
-use fs_board_search::{Chase, Crew, Learned, Left, Others, Piece};
+use fs_board_search::{Chase, Crew, Learned, Left, Others, Piece, Team};
+use fs_region_refutation::Subtrees;
 use std::alloc::{AllocError, Global};
 use std::sync::atomic::{AtomicU64, AtomicUsize, Ordering};
 use std::sync::{Condvar, Mutex, Wait};
@@ -227,6 +232,8 @@ pub struct Hunters<'r, R> {
     workers: u8,
     /// How many hunts there were in which two looked at regions or more.
     joint: AtomicU64,
+    /// How many refutations there were at which two looked or more.
+    checks: AtomicU64,
 }
 
 impl<'r, R: Threads + Wait + Sync> Hunters<'r, R> {
@@ -236,6 +243,7 @@ impl<'r, R: Threads + Wait + Sync> Hunters<'r, R> {
             rt,
             workers,
             joint: AtomicU64::new(0),
+            checks: AtomicU64::new(0),
         }
     }
 }
@@ -244,6 +252,22 @@ impl<R> Hunters<'_, R> {
     /// In how many hunts so far at least two have looked at regions.
     pub fn joint(&self) -> u64 {
         self.joint.load(Ordering::Relaxed)
+    }
+
+    /// At how many refutations so far at least two have looked.
+    pub fn checks(&self) -> u64 {
+        self.checks.load(Ordering::Relaxed)
+    }
+
+    /// How many look at so many subtrees. This is counted where it is more than one.
+    fn lookers(&self, subtrees: usize) -> usize
+        ensures { 0 < result }
+    {
+        let lookers = usize::from(self.workers).min(subtrees).max(1);
+        if lookers > 1 {
+            self.checks.fetch_add(1, Ordering::Relaxed);
+        }
+        lookers
     }
 
     /// Counts a hunt in which they have looked at so many regions each.
@@ -311,5 +335,32 @@ impl<R: Threads + Wait + Sync> Crew for Hunters<'_, R> {
         )?;
         self.note(&looks);
         left(room.into_inner())
+    }
+}
+
+/// Has each of them found that it is so?
+fn all_found(found: &[Result<bool, AllocError>]) -> Result<bool, AllocError>
+    ensures { IfOk result (λ yes. yes ≡ true → (i : ℕ) (d : _) → i < length found.now
+        → slice_index_or found.now i d ≡ Ok true) }
+{
+    for one in found {
+        match one {
+            Ok(true) => {}
+            Ok(false) => return Ok(false),
+            Err(_) => return Err(AllocError),
+        }
+    }
+    Ok(true)
+}
+
+impl<R: Threads + Wait + Sync> Team for Hunters<'_, R> {
+    fn check(&self, alloc: Global, subtrees: &Subtrees<'_>) -> Result<bool, AllocError> {
+        let lookers = self.lookers(subtrees.count());
+        let part = move |looker: usize| -> Result<bool, AllocError>
+            requires { (0 < lookers) × AreOfTheTest subtrees.now }
+            ensures { IfOk result (λ yes. yes ≡ true → AreRefutedInTurn lookers looker subtrees.entry.now) }
+        { subtrees.are_refuted_in_turn(alloc, looker, lookers) };
+        let found = thread::map_indices(self.rt, alloc, lookers, &part)?;
+        all_found(&found)
     }
 }

@@ -11,3 +11,4 @@ pub mod Whole
 pub mod Chains
 pub mod Stacks
 pub mod Walked
+mod Joined

@@ -1,4 +1,5 @@
 pub mod Orders
 pub mod Runs
+pub mod Subtrees
 pub mod Views
 pub mod inner

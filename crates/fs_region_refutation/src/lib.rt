@@ -14,6 +14,7 @@ mod ready;
 mod region;
 mod root;
 mod splits;
+mod subtrees;
 mod walk;
 
 pub use basis::Basis;
@@ -23,4 +24,5 @@ pub use musts::{
 pub use region::Region;
 pub use root::roots;
 pub use splits::{by_cases, by_choice, by_order, by_outcome, by_source, has_cases};
+pub use subtrees::{Subtrees, subtrees};
 pub use walk::reason_against;

@@ -82,6 +82,19 @@ impl<'a> Region<'a> {
             && is_same_name(second, known.second))
     }
 
+    /// The same region, which shares its lists.
+    pub(crate) fn shared(&self, alloc: Global) -> Result<Region<'a>, AllocError>
+        ensures region { IfOk result (λ region. region_of region ≡ region_of self.now) }
+        ensures of { (t : Test) → IsOf t self.now → IfOk result (IsOf t) }
+    {
+        Ok(Region {
+            runs: share(alloc, &self.runs)?,
+            sources: Arc::try_clone(&self.sources)?,
+            orders: Arc::try_clone(&self.orders)?,
+            wanted: Arc::try_clone(&self.wanted)?,
+        })
+    }
+
     /// The region with these runs of the hart, where it is one.
     pub(crate) fn with_runs(
         &self,

@@ -12,6 +12,7 @@ ghost use Rattle.fs_cert_evidence.specs.Certificate.{ByOrder};
 ghost use Rattle.fs_cert_evidence.specs.Trees.{must_be_cycle, follows, left_after, roots, AreItsRuns};
 ghost use Rattle.fs_cert_evidence.specs.Refusals.{first_wrong};
 ghost use Rattle.fs_cert_evidence.specs.Inferences.{inference_of};
+ghost use Rattle.fs_region_refutation.specs.Runs.{AreRoots};
 ghost use Rattle.fs_region_refutation.specs.Views.{region_of, regions_of, IsOf, AreOf};
 ghost use Rattle.fs_region_refutation.specs.inner.Stacks.{stacked};
 
@@ -174,6 +175,72 @@ fn is_outcome(quantifier: Quantifier) -> bool
     }
 }
 
+/// Can the inference be drawn from the region? If so the regions that it leaves open come on the stack, the first one on
+/// top.
+pub(crate) fn is_drawn<'a>(
+    alloc: Global,
+    basis: &Basis,
+    placement: &Placement,
+    stack: &mut Vec<Region<'a>>,
+    region: &Region<'a>,
+    inference: &Inference,
+) -> Result<bool, AllocError>
+    requires { IsOf basis.now region.now }
+    ensures drawn { IfOk result (λ drawn.
+        drawn ≡ follows basis.now placement.now (region_of region.now) (inference_of inference.now)) }
+    ensures regions { IfOk result (λ drawn. drawn ≡ true → stacked stack.new.items
+        ≡ left_after basis.now (region_of region.now) (inference_of inference.now) ++ stacked stack.old.items) }
+    ensures of { IfOk result (λ drawn. drawn ≡ true → AreOf basis.now stack.old.items
+        → AreOf basis.now stack.new.items) }
+{
+    if !follows(basis, placement, region, inference) {
+        return Ok(false);
+    }
+    push_all(stack, left_after(alloc, basis, region, inference)?)?;
+    Ok(true)
+}
+
+/// The reason against the inferences as a refutation of these regions, of which the last one comes first, if there is
+/// one.
+pub(crate) fn reason_from(
+    alloc: Global,
+    basis: &Basis,
+    placement: &Placement,
+    regions: Vec<Region<'_>>,
+    inferences: &[Inference],
+) -> Result<Option<Reason>, AllocError>
+    requires { AreOf basis.now regions.items }
+    ensures { IfOk result (λ why. why
+        ≡ first_wrong basis.now placement.now (stacked regions.items) (map inference_of inferences.now) 0) }
+{
+    let mut stack = regions;
+    for (index, inference) in inferences.iter().enumerate() {
+        let Some(region) = stack.pop() else {
+            return Ok(Some(Reason::Cycles)); // one too many
+        };
+        let drawn = is_drawn(alloc, basis, placement, &mut stack, &region, inference)?;
+        if !drawn {
+            return Ok(Some(Reason::Cycle { index }));
+        }
+    }
+    if stack.is_empty() {
+        Ok(None)
+    } else {
+        Ok(Some(Reason::Cycles))
+    }
+}
+
+/// The regions that are open at first, on a stack.
+pub(crate) fn first_open<'a>(alloc: Global, basis: &'a Basis) -> Result<Vec<Region<'a>>, AllocError>
+    ensures regions { IfOk result (λ regions. AreRoots basis.now (stacked regions.items)) }
+    ensures of { IfOk result (λ regions. AreOf basis.now regions.items) }
+{
+    let truth = is_outcome(basis.test().quantifier);
+    let mut stack = Vec::new(alloc);
+    push_all(&mut stack, roots(alloc, basis, truth)?)?;
+    Ok(stack)
+}
+
 /// The reason against the inferences as a refutation of the test under the placement, if there is one: the first
 /// that can't be drawn from its region, by its number from 0, or that one is left over, whichever comes first; or
 /// else that one is missing. Without a reason the placement forbids the outcome.
@@ -193,21 +260,7 @@ pub fn reason_against(
         × (why ≡ first_wrong basis.now placement.now (roots basis.now runs) (map inference_of inferences.now) 0)) }
     ensures err { IsOkUnless result Memory }
 {
-    let truth = is_outcome(basis.test().quantifier);
-    let mut stack = Vec::new(alloc);
-    push_all(&mut stack, roots(alloc, basis, truth)?)?;
-    for (index, inference) in inferences.iter().enumerate() {
-        let Some(region) = stack.pop() else {
-            return Ok(Some(Reason::Cycles)); // one too many
-        };
-        if !follows(basis, placement, &region, inference) {
-            return Ok(Some(Reason::Cycle { index }));
-        }
-        push_all(&mut stack, left_after(alloc, basis, &region, inference)?)?;
-    }
-    if stack.is_empty() {
-        Ok(None)
-    } else {
-        Ok(Some(Reason::Cycles))
-    }
+    let regions = first_open(alloc, basis)?;
+    let why = reason_from(alloc, basis, placement, regions, inferences)?;
+    Ok(why)
 }

@@ -4,7 +4,7 @@ use Rattle.fs_cert_evidence.specs.Inferences.{inference_of}
 use Rattle.fs_region_refutation.specs.Views.{AreOf}
 use Rattle.fs_region_refutation.specs.inner.Stacks.{stacked}
 use Rattle.fs_region_refutation.proofs.Walked.{wrong_from}
-use Rattle.fs_region_refutation.proofs.walk.reason_against.Given as goal
+use Rattle.fs_region_refutation.proofs.walk.reason_from.Given as goal
 
 abbrev pub invariant-loop-index : goal.invariant-loop-index
 invariant-loop-index l =
