@@ -83,7 +83,7 @@ fn told(
     let mut text = String::new(alloc);
     match found {
         Found::Refuted(tree) => {
-            let why = reason_against(alloc, basis, placement, tree.as_slice())?;
+            let why = reason_against(alloc, basis, placement, tree.inferences.as_slice())?;
             write!(text, "refuted, {why:?}")?;
         }
         Found::Shown(execution) => {
@@ -156,7 +156,7 @@ refuted, None
 refuted, None
 ";
 
-const LOCK3_FENCES: &str = "P0:3=r,r P0:7=w,w P1:3=r,r P1:7=w,w P2:3=r,r P2:7=w,w";
+pub(crate) const LOCK3_FENCES: &str = "P0:3=r,r P0:7=w,w P1:3=r,r P1:7=w,w P2:3=r,r P2:7=w,w";
 
 /// Pairs, AMOs, forwarding, and conditions of other forms.
 const OTHERS: [(&str, &str); 13] = [
@@ -246,7 +246,7 @@ fn refuted_by(alloc: Global, text: &str, fences: &str, most: usize) -> Result<us
     let basis = Basis::new(alloc, &test)?;
     let hunter = hunter_of(alloc, &test, basis.names(), basis.runs())?;
     match hunter.hunt(alloc, &mut Kept::new(), &placement, most)? {
-        Found::Refuted(tree) => Ok(tree.len()),
+        Found::Refuted(tree) => Ok(tree.inferences.len()),
         _ => Ok(0),
     }
 }

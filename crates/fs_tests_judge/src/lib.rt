@@ -22,6 +22,8 @@ mod runs;
 #[cfg(test)]
 mod slots;
 #[cfg(test)]
+mod subtrees;
+#[cfg(test)]
 mod texts;
 #[cfg(test)]
 mod traces;

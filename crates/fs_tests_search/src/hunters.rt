@@ -32,13 +32,14 @@ OUT: | OUT: | OUT: | OUT: ;
 exists (0:x14=1 /\\ 1:x14=1 /\\ 2:x14=1 /\\ 3:x14=1 /\\ ~d=4)
 ";
 
-/// In how many hunts over the test two of so many workers or more have looked at regions.
-fn joint<R: Threads + Wait + Sync>(
+/// In how many hunts over the test two of so many workers or more have looked at regions, and at how many refutations
+/// they have.
+fn shared<R: Threads + Wait + Sync>(
     rt: &R,
     alloc: Global,
     text: &str,
     workers: u8,
-) -> Result<u64, Fault> {
+) -> Result<(u64, u64), Fault> {
     let question = question_of(alloc, text, PRICES)?;
     let problem = problem_of(alloc, &question)?;
     let mut board = Board::new(alloc, question, 1_000_000)?;
@@ -51,7 +52,7 @@ fn joint<R: Threads + Wait + Sync>(
         &mut Unwatched,
         &hunters,
     )?;
-    Ok(hunters.joint())
+    Ok((hunters.joint(), hunters.checks()))
 }
 
 /// A thread may begin only when the first one is done: then they try again.
@@ -59,16 +60,27 @@ fn joint<R: Threads + Wait + Sync>(
 fn two_workers_hunt_for_one_verdict(rt: HostRuntime) -> Result<(), Fail> {
     let mut is_joint = false;
     for _ in 0..20 {
-        is_joint = is_joint || joint(&rt, rt.alloc(), LOCK, 2)? > 0;
+        let (hunts, _) = shared(&rt, rt.alloc(), LOCK, 2)?;
+        is_joint = is_joint || hunts > 0;
     }
     assert!(rt; is_joint);
     Ok(())
 }
 
 #[test]
+fn two_workers_look_at_one_refutation(rt: HostRuntime) -> Result<(), Fail> {
+    let (_, checks) = shared(&rt, rt.alloc(), LOCK, 2)?;
+    assert!(rt; checks > 0);
+    Ok(())
+}
+
+#[test]
 fn short_hunts_are_hunted_by_one(rt: HostRuntime) -> Result<(), Fail> {
-    assert_eq!(rt; joint(&rt, rt.alloc(), SB, 4)?, 0);
-    assert_eq!(rt; joint(&rt, rt.alloc(), LOCK, 1)?, 0);
+    for (text, workers) in [(SB, 4), (LOCK, 1)] {
+        let (hunts, checks) = shared(&rt, rt.alloc(), text, workers)?;
+        assert_eq!(rt; hunts, 0);
+        assert_eq!(rt; checks, 0);
+    }
     Ok(())
 }
 

@@ -1,0 +1,67 @@
+//! Refutations of hunts, looked at by their subtrees.
+
+use crate::hunts::LOCK3_FENCES;
+use crate::texts::LOCK3;
+use fs_judge_hunt::{Found, Kept, Refutation};
+use fs_judge_runs::hunter_of;
+use fs_kinds::{Fault, Placement};
+use fs_litmus::read_test;
+use fs_region_refutation::{Basis, subtrees};
+use fs_tests_shared::placement_of;
+use std::alloc::Global;
+use std::sync::Arc;
+use std::test::Fail;
+
+/// How many inferences a hunt may make.
+const MOST: usize = 1_000_000;
+
+/// Whether there are subtrees, and whether each of two workers finds right those whose turn it is; `none` where the
+/// inferences above aren't right.
+fn looked(
+    alloc: Global,
+    basis: &Basis,
+    placement: &Placement,
+    tree: &Refutation,
+    sizes: &[u32],
+) -> Result<String, Fault> {
+    let mut text = String::new(alloc);
+    match subtrees(alloc, basis, placement, &tree.inferences, sizes)? {
+        Some(left) => {
+            let are_some = left.count() > 1;
+            let first = left.are_refuted_in_turn(alloc, 0, 2)?;
+            let second = left.are_refuted_in_turn(alloc, 1, 2)?;
+            write!(text, "{are_some} {first} {second}\n")?;
+        }
+        None => text.push_str("none\n")?,
+    }
+    Ok(text)
+}
+
+/// The same of what a hunt finds on the lock of three harts: with its sizes; where no size is known; and where each
+/// inference is said to be a whole subtree.
+fn all_looked(alloc: Global) -> Result<String, Fault> {
+    let test = Arc::new(alloc, read_test(alloc, LOCK3.as_bytes())?)?;
+    let placement = placement_of(alloc, &test, LOCK3_FENCES)?;
+    let basis = Basis::new(alloc, &test)?;
+    let hunter = hunter_of(alloc, &test, basis.names(), basis.runs())?;
+    let mut text = String::new(alloc);
+    let found = hunter.hunt(alloc, &mut Kept::new(), &placement, MOST)?;
+    if let Found::Refuted(tree) = found {
+        let mut ones = Vec::new(alloc);
+        for _ in &tree.sizes {
+            ones.push(1)?;
+        }
+        for sizes in [tree.sizes.as_slice(), &[], ones.as_slice()] {
+            let line = looked(alloc, &basis, &placement, &tree, sizes)?;
+            text.push_str(line.as_str())?;
+        }
+    }
+    Ok(text)
+}
+
+#[test]
+fn subtrees_are_looked_at_apart(rt: HostRuntime) -> Result<(), Fail> {
+    let text = all_looked(rt.alloc())?;
+    assert_eq!(rt; text.as_str(), "true true true\nfalse true true\nnone\n");
+    Ok(())
+}
