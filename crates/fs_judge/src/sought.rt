@@ -16,7 +16,7 @@ use fs_check::shown_by;
 use fs_judge_hunt::{Execution, Found, Refutation};
 use fs_kinds::{Fault, List, OperationName, Placement};
 use fs_model::Test;
-use fs_region_refutation::{Basis, reason_against, subtrees};
+use fs_region_refutation::{Basis, reason_against, small_subtrees};
 use std::alloc::{AllocError, Global};
 
 /// One looks at fewer inferences than these alone: that takes less time than threads take to start.
@@ -67,7 +67,7 @@ fn is_refuted_by<T: Team>(
     if team.is_alone() || inferences.len() < FEW_INFERENCES {
         return is_refuted(alloc, basis, placement, inferences);
     }
-    let Some(left) = subtrees(alloc, basis, placement, inferences, &refutation.sizes)? else {
+    let Some(left) = small_subtrees(alloc, basis, placement, inferences, &refutation.sizes)? else {
         return Ok(false);
     };
     Ok(team.check(alloc, &left)?)

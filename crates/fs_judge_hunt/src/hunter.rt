@@ -10,7 +10,7 @@ use crate::fences::{all_fenced, pairs_at};
 use crate::first::hunt_first;
 use crate::frames::{Hunted, Limits, Search};
 use crate::hart::{Hart, may_store_often};
-use crate::inferences::{Refutation, refutation};
+use crate::inferences::{Refutation, inferences_of};
 use crate::needs::Fences;
 use crate::region::Field;
 use crate::rules::Rule;
@@ -202,7 +202,7 @@ impl Hunter {
     ) -> Result<Found, AllocError> {
         let _ = &self.condition;
         match hunted {
-            Hunted::Refuted => Ok(match refutation(alloc, field, &search.tree, most)? {
+            Hunted::Refuted => Ok(match inferences_of(alloc, field, &search.tree, most)? {
                 Some(refutation) => Found::Refuted(refutation),
                 None => Found::GaveUp,
             }),

@@ -227,7 +227,7 @@ impl Writer<'_> {
 
 /// The inferences by which the tree refutes its root with the fences of the field; nothing where there are more than so
 /// many.
-pub(crate) fn refutation(
+pub(crate) fn inferences_of(
     alloc: Global,
     field: Field<'_>,
     tree: &Tree,

@@ -24,5 +24,5 @@ pub use musts::{
 pub use region::Region;
 pub use root::roots;
 pub use splits::{by_cases, by_choice, by_order, by_outcome, by_source, has_cases};
-pub use subtrees::{Subtrees, subtrees};
+pub use subtrees::{Subtrees, small_subtrees};
 pub use walk::reason_against;

@@ -53,7 +53,7 @@ fn small_size(sizes: &[u32], index: usize, count: usize) -> usize
 /// over; none where one can't be drawn, or one is missing or left over. Where the inferences of each of them refute its
 /// region, all inferences refute the test. The sizes say of each inference, from the first one on, how many the subtree
 /// has that begins with it, or 0 where that isn't known. The cost is that of `reason_against`, for the inferences above.
-pub fn subtrees<'a>(
+pub fn small_subtrees<'a>(
     alloc: Global,
     basis: &'a Basis,
     placement: &'a Placement,

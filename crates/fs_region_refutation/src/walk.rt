@@ -211,7 +211,7 @@ pub(crate) fn reason_from(
 ) -> Result<Option<Reason>, AllocError>
     requires { AreOf basis.now regions.items }
     ensures { IfOk result (λ why. why
-        ≡ first_wrong basis.now placement.now (stacked regions.items) (map inference_of inferences.now) 0) }
+        ≡ first_wrong basis.now placement.now (stacked regions.entry.items) (map inference_of inferences.now) 0) }
 {
     let mut stack = regions;
     for (index, inference) in inferences.iter().enumerate() {

@@ -6,7 +6,7 @@ use fs_judge_hunt::{Found, Kept, Refutation};
 use fs_judge_runs::hunter_of;
 use fs_kinds::{Fault, Placement};
 use fs_litmus::read_test;
-use fs_region_refutation::{Basis, subtrees};
+use fs_region_refutation::{Basis, small_subtrees};
 use fs_tests_shared::placement_of;
 use std::alloc::Global;
 use std::sync::Arc;
@@ -25,7 +25,7 @@ fn looked(
     sizes: &[u32],
 ) -> Result<String, Fault> {
     let mut text = String::new(alloc);
-    match subtrees(alloc, basis, placement, &tree.inferences, sizes)? {
+    match small_subtrees(alloc, basis, placement, &tree.inferences, sizes)? {
         Some(left) => {
             let are_some = left.count() > 1;
             let first = left.are_refuted_in_turn(alloc, 0, 2)?;

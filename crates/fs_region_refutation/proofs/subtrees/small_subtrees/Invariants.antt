@@ -6,7 +6,7 @@ use Rattle.fs_region_refutation.specs.declared.subtrees.Subtree.{Subtree}
 use Rattle.fs_region_refutation.specs.Subtrees.{IsRefutedBy}
 use Rattle.fs_region_refutation.specs.Views.{AreOf, IsOf}
 use Rattle.fs_region_refutation.specs.inner.Stacks.{stacked}
-use Rattle.fs_region_refutation.proofs.subtrees.subtrees.Given as goal
+use Rattle.fs_region_refutation.proofs.subtrees.small_subtrees.Given as goal
 
 -- where the subtrees so far refute their regions, and the rest does those on the stack, all refute the first ones
 abbrev pub invariant-loop : goal.invariant-loop

@@ -12,7 +12,7 @@ use Rattle.fs_region_refutation.specs.Views.{region_of, AreOf, IsOf}
 use Rattle.fs_region_refutation.specs.inner.Stacks.{stacked}
 use Rattle.fs_region_refutation.proofs.Stacks.{stacked_push}
 use Rattle.fs_region_refutation.proofs.Joined.{all_of_each, with_subtree, with_inference, with_nothing}
-use Rattle.fs_region_refutation.proofs.subtrees.subtrees.Goals as goal
+use Rattle.fs_region_refutation.proofs.subtrees.small_subtrees.Goals as goal
 
 pub loop-init : goal.loop-init
 loop-init c =
