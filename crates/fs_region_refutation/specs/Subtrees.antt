@@ -12,7 +12,8 @@ use Rattle.fs_region_refutation.specs.Views.{region_of, IsOf}
 
 -- the subtree's part of all inferences refutes its region
 abbrev pub IsRefutedBy : Test → List Entry → List Inference → Subtree → Type 0
-IsRefutedBy t p all subtree = refutes t p (region_of subtree.region ∷ []) (slice_range all subtree.from subtree.to) ≡ true
+IsRefutedBy t p all subtree =
+    refutes t p (region_of subtree.region ∷ []) (slice_range all subtree.from subtree.to) ≡ true
 
 abbrev pub IsRefutedIn : Subtrees → Subtree → Type 0
 IsRefutedIn subtrees = IsRefutedBy subtrees.basis.now subtrees.placement.now (map inference_of subtrees.inferences.now)

@@ -51,8 +51,8 @@ fn small_size(sizes: &[u32], index: usize, count: usize) -> usize
 
 /// The small subtrees, in their order, that are left where all inferences above them can be drawn and no region is left
 /// over; none where one can't be drawn, or one is missing or left over. Where the inferences of each of them refute its
-/// region, all inferences refute the test. The sizes say of each inference, from the first one on, how many the subtree
-/// has that begins with it, or 0 where that isn't known. The cost is that of `reason_against`, for the inferences above.
+/// region, all inferences refute the test. The sizes say of each inference how many the subtree has that begins with it,
+/// or 0 where that isn't known. The cost is that of `reason_against`, for the inferences above.
 pub fn small_subtrees<'a>(
     alloc: Global,
     basis: &'a Basis,
@@ -114,8 +114,10 @@ impl Subtrees<'_> {
         };
         let mut regions = Vec::new(alloc);
         regions.push(subtree.region.shared(alloc)?)?;
-        let why = reason_from(alloc, self.basis, self.placement, regions, inferences)?;
-        Ok(why.is_none())
+        match reason_from(alloc, self.basis, self.placement, regions, inferences)? {
+            None => Ok(true),
+            Some(_) => Ok(false),
+        }
     }
 
     /// Of so many workers this one looks at each subtree whose turn it is: do the inferences of each refute its region?

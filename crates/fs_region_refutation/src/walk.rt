@@ -175,8 +175,7 @@ fn is_outcome(quantifier: Quantifier) -> bool
     }
 }
 
-/// Can the inference be drawn from the region? If so the regions that it leaves open come on the stack, the first one on
-/// top.
+/// Can the inference be drawn from the region? If so what it leaves open comes on the stack, the first region on top.
 pub(crate) fn is_drawn<'a>(
     alloc: Global,
     basis: &Basis,

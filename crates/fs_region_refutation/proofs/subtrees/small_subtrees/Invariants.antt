@@ -9,13 +9,13 @@ use Rattle.fs_region_refutation.specs.inner.Stacks.{stacked}
 use Rattle.fs_region_refutation.proofs.subtrees.small_subtrees.Given as goal
 
 -- where the subtrees so far refute their regions, and the rest does those on the stack, all refute the first ones
-abbrev pub invariant-loop : goal.invariant-loop
-invariant-loop l =
+abbrev pub invariant-loop-index : goal.invariant-loop-index
+invariant-loop-index l =
     (All (IsRefutedBy l.basis l.placement (map inference_of l.inferences)) l.all.items
     → refutes l.basis l.placement (stacked l.stack.items) (drop l.index (map inference_of l.inferences)) ≡ true
     → refutes l.basis l.placement (stacked l.initial.stack.items) (map inference_of l.inferences) ≡ true)
     × (AreOf l.basis l.stack.items
     × (All (λ (subtree : Subtree). IsOf l.basis subtree.region) l.all.items × (l.index ≤ l.count)))
 
-abbrev pub decreases-loop : goal.decreases-loop
-decreases-loop l = l.count - l.index
+abbrev pub decreases-loop-index : goal.decreases-loop-index
+decreases-loop-index l = l.count - l.index

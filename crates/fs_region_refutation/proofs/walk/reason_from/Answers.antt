@@ -1,11 +1,10 @@
-use Rattle.std.proofs.Common.{◌≡◌, ◌∙◌, ◌++◌, ◌∷◌, [], Some, None, map, reverse, get_or, refl, ap, sym, ◌+◌, arith}
+use Rattle.std.proofs.Common.{◌≡◌, ◌∙◌, ◌++◌, ◌∷◌, [], Some, map, reverse, get_or, refl, ap, sym, ◌+◌, arith}
 use Rattle.std.proofs.lemmas.Bool.{eqb-false, eqb-true}
 use Rattle.std.proofs.lemmas.List.{get_or-map, length-map, length-reverse, nil_from_length}
 use Rattle.std.proofs.lemmas.List.Elements.{All-pop}
-use Rattle.fs_kinds.specs.declared.reason.Reason.TheVariants as reason
 use Rattle.fs_cert_evidence.specs.Trees.{follows, left_after}
 use Rattle.fs_cert_evidence.specs.Inferences.{inference_of}
-use Rattle.fs_region_refutation.specs.Views.{region_of, AreOf, IsOf}
+use Rattle.fs_region_refutation.specs.Views.{region_of, IsOf}
 use Rattle.fs_region_refutation.specs.inner.Stacks.{stacked}
 use Rattle.fs_region_refutation.proofs.Stacks.{stacked_push, first_of}
 use Rattle.fs_region_refutation.proofs.Walked.{wrong_from, wrong_later, wrong_here, one_more, one_less, none_wrong}
