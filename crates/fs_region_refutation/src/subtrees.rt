@@ -51,7 +51,7 @@ fn small_size(sizes: &[u32], index: usize, count: usize) -> usize
 
 /// The small subtrees, in their order, that are left where all inferences above them can be drawn and no region is left
 /// over; none where one can't be drawn, or one is missing or left over. Where the inferences of each of them refute its
-/// region, all of them refute the test. The sizes say of each inference how many the subtree has that begins with it, or
+/// region, all of them refute the test. The sizes say of each inference how many the subtree has that begins with it;
 /// 0 where that isn't known. The cost is that of `reason_against`, for the inferences above.
 pub fn small_subtrees<'a>(
     alloc: Global,
