@@ -18,6 +18,7 @@ pub trait Team: Crew {
 
 impl Team for Alone {
     fn check(&self, alloc: Global, subtrees: &Subtrees<'_>) -> Result<bool, AllocError> {
-        subtrees.are_refuted_in_turn(alloc, 0, 1)
+        let are_refuted = subtrees.are_refuted_in_turn(alloc, 0, 1)?;
+        Ok(are_refuted)
     }
 }
