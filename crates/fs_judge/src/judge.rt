@@ -137,8 +137,8 @@ impl Judge {
     }
 
     /// The same, where the team may hunt: others join where one has looked at 300 regions. What is found is checked as
-    /// any hunt's is, by all where there are 1,000 inferences. Which witness or refutation it is depends on their turns, whether it is a witness doesn't; but
-    /// near the 1,000,000 inferences whether F15 comes may.
+    /// any hunt's is, by all where there are 1,000 inferences. Which witness or refutation it is depends on their turns,
+    /// whether it is a witness doesn't; but near the 1,000,000 inferences whether F15 comes may.
     pub fn verdict_by<T: Team>(
         &mut self,
         alloc: Global,

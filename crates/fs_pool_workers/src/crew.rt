@@ -186,8 +186,9 @@ fn opened(alloc: Global, question: &Arc<Question>, limit: usize) -> Result<Board
     Board::new(alloc, question, limit)
 }
 
-/// One worker searches the board alone, but that others hunt for its verdicts where these take long. Where the others are to join now the witnesses that it has met come back; none
-/// where the board is finished, or has no room left. The faults are those of verdicts, and F19.
+/// One worker searches the board alone, but that others hunt for its verdicts where these take long. Where the others
+/// are to join now the witnesses that it has met come back; none where the board is finished, or has no room left. The
+/// faults are those of verdicts, and F19.
 fn begin<R: Threads + Wait + Sync, G: Gate>(
     alloc: Global,
     problem: &Arc<Problem>,
