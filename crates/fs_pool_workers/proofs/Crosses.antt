@@ -23,6 +23,14 @@ use Rattle.fs_kinds.proofs.reason.OperationName.TheSendSync as named
 use Rattle.fs_region_runs.proofs.lone.Made.TheSendSync as made
 use Rattle.fs_region_runs.specs.contracts.lone.Lone as Lone
 use Rattle.fs_region_refutation.specs.contracts.basis.Basis as Basis
+use Rattle.fs_region_refutation.specs.contracts.region.Region as Region
+use Rattle.fs_region_refutation.specs.contracts.region.Wanted as Wanted
+use Rattle.fs_region_refutation.specs.contracts.subtrees.Subtree as Subtree
+use Rattle.fs_region_refutation.specs.contracts.subtrees.Subtrees as Subtrees
+use Rattle.fs_region_refutation.proofs.region.Ordered.TheSendSync as ordered
+use Rattle.fs_region_refutation.proofs.region.Sourced.TheSendSync as sourced
+use Rattle.fs_cert_evidence.proofs.inference.Inference.TheSendSync as inference
+use Rattle.fs_kinds.proofs.placement.Placement.TheSendSync as placement
 use Rattle.fs_board_search.proofs.Problems as problem
 use Rattle.fs_pool_workers.proofs.Outcomes.{hole_send, hole_sync}
 
@@ -65,6 +73,21 @@ basis_send = search (test_send, test_sync, lone_send, list.the_send, named.the_s
 
 basis_sync : IsSync Basis.the_row
 basis_sync = search (test_send, test_sync, lone_sync, list.the_sync, named.the_sync, crosses, sendable) depth 40 fits 100000
+
+wanted_send : IsSend Wanted.the_row
+wanted_send = search (outcome_sync, crosses, sendable) depth 20 fits 20000
+
+wanted_sync : IsSync Wanted.the_row
+wanted_sync = search (outcome_sync, crosses, sendable) depth 20 fits 20000
+
+region_sync : IsSync Region.the_row
+region_sync = search (lone_sync, wanted_send, wanted_sync, sourced.the_send, sourced.the_sync, ordered.the_send, ordered.the_sync, list.the_send, list.the_sync, crosses, sendable) depth 60 fits 1000000
+
+subtree_sync : IsSync Subtree.the_row
+subtree_sync = search (region_sync, crosses, sendable) depth 40 fits 100000
+
+pub subtrees_sync : IsSync Subtrees.the_row
+subtrees_sync = search (basis_sync, placement.the_sync, inference.the_sync, list.the_sync, subtree_sync, crosses, sendable) depth 40 fits 100000
 
 pub problem_send : IsSend problem.the_row
 problem_send = search (test_send, test_sync, basis_send, crosses, sendable) depth 40 fits 100000
