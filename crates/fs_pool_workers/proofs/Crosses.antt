@@ -1,5 +1,6 @@
 -- What a desk, a question and a problem are made of may cross threads.
 use denote.RattleType.{RattleType}
+use denote.Ref.{NamedLft}
 use denote.Param.Send.{IsSend, IsSync, sendable}
 use denote.Param.SendFields.{declared_send, declared_sync}
 use Rattle.std.proofs.Crossing.{crosses}
@@ -74,20 +75,33 @@ basis_send = search (test_send, test_sync, lone_send, list.the_send, named.the_s
 basis_sync : IsSync Basis.the_row
 basis_sync = search (test_send, test_sync, lone_sync, list.the_sync, named.the_sync, crosses, sendable) depth 40 fits 100000
 
-wanted_send : IsSend Wanted.the_row
-wanted_send = search (outcome_sync, crosses, sendable) depth 20 fits 20000
+wanted_send : (a : NamedLft) → IsSend (Wanted.the_row a)
+wanted_send a = search (outcome_sync, crosses, sendable) depth 20 fits 20000
 
-wanted_sync : IsSync Wanted.the_row
-wanted_sync = search (outcome_sync, crosses, sendable) depth 20 fits 20000
+wanted_sync : (a : NamedLft) → IsSync (Wanted.the_row a)
+wanted_sync a = search (outcome_sync, crosses, sendable) depth 20 fits 20000
 
-region_sync : IsSync Region.the_row
-region_sync = search (lone_sync, wanted_send, wanted_sync, sourced.the_send, sourced.the_sync, ordered.the_send, ordered.the_sync, list.the_send, list.the_sync, crosses, sendable) depth 60 fits 1000000
+region_sync : (a : NamedLft) → IsSync (Region.the_row a)
+region_sync a =
+    declared_sync (Region.the_type a) (
+      search (lone_sync, list.the_send, list.the_sync, crosses, sendable) depth 40 fits 100000,
+      (
+        search (sourced.the_send, sourced.the_sync, list.the_send, list.the_sync, crosses, sendable) depth 40 fits 100000,
+        (
+          search (ordered.the_send, ordered.the_sync, list.the_send, list.the_sync, crosses, sendable) depth 40 fits 100000,
+          (search (wanted_send, wanted_sync, list.the_send, list.the_sync, crosses, sendable) depth 60 fits 1000000, tt),
+        ),
+      ),
+    )
 
-subtree_sync : IsSync Subtree.the_row
-subtree_sync = search (region_sync, crosses, sendable) depth 40 fits 100000
+subtree_sync : (a : NamedLft) → IsSync (Subtree.the_row a)
+subtree_sync a =
+    declared_sync (Subtree.the_type a)
+    (search (region_sync, sendable) depth 12 fits 20000, (search sendable depth 12, (search sendable depth 12, tt)))
 
-pub subtrees_sync : IsSync Subtrees.the_row
-subtrees_sync = search (basis_sync, placement.the_sync, inference.the_sync, list.the_sync, subtree_sync, crosses, sendable) depth 40 fits 100000
+pub subtrees_sync : (a : NamedLft) → IsSync (Subtrees.the_row a)
+subtrees_sync a =
+    search (basis_sync, placement.the_sync, inference.the_sync, list.the_sync, subtree_sync, crosses, sendable) depth 40 fits 100000
 
 pub problem_send : IsSend problem.the_row
 problem_send = search (test_send, test_sync, basis_send, crosses, sendable) depth 40 fits 100000

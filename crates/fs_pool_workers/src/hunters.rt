@@ -361,6 +361,7 @@ impl<R: Threads + Wait + Sync> Team for Hunters<'_, R> {
             ensures { IfOk result (λ yes. yes ≡ true → AreRefutedInTurn lookers looker subtrees.entry.now) }
         { subtrees.are_refuted_in_turn(alloc, looker, lookers) };
         let found = thread::map_indices(self.rt, alloc, lookers, &part)?;
-        all_found(&found)
+        let are_refuted = all_found(&found)?;
+        Ok(are_refuted)
     }
 }
