@@ -436,7 +436,9 @@ class TestReader:
                 found = joined(stack, found, ('\\/',))
                 stack.pop()
                 found = joined(stack, found, ('~', '/\\'))
-            if not self.peek() and not any(sign == '(' for sign, *_ in stack):
+            if not any(sign == '(' for sign, *_ in stack) and (self.accept(';') or not self.peek()):
+                if self.peek():
+                    self.expect()                       # nothing stands behind the condition
                 tree, depth = joined(stack, found, ('\\/',))
                 return tree, max(deepest, depth)
             sign = self.expect('/\\', '\\/')

@@ -14,7 +14,7 @@ use Rattle.fs_litmus_syntax.specs.Header.{IsColumns, last, more}
 use Rattle.fs_litmus_syntax.specs.Body.{Cell, IsCell, nothing, plain, IsRow, one, cells, IsSkipped, closed, skipped, IsQuantifier, exists, not_exists, forall, IsEnding, bare as unnamed, after_locations, Body, IsBody, ending, row}
 use Rattle.fs_litmus_syntax.specs.declared.rows.Quantifier.{Quantifier}
 use Rattle.fs_litmus_syntax.specs.Form.{Form, IsForm, form}
-use Rattle.fs_litmus_syntax.specs.Grammar.{Syntax, IsEqual, once, twice, IsUnequal, less_greater, bang_equals, IsUnit, atom, other, truth, falsity, tilde, denial, group, IsConjunction, unit, both, IsDisjunction, conjunction, either, IsCondition}
+use Rattle.fs_litmus_syntax.specs.Grammar.{Syntax, IsEqual, once, twice, IsUnequal, less_greater, bang_equals, IsUnit, atom, other, truth, falsity, tilde, denial, group, IsConjunction, unit, both, IsDisjunction, conjunction, either, IsCondition, complete}
 use Rattle.fs_litmus_syntax.specs.Meaning.{atoms_of}
 use Rattle.fs_model.specs.Test.{is_name}
 use Rattle.fs_litmus.specs.Locations.{Names, Binding, with_name, with_target, with_value, declared}
@@ -159,7 +159,7 @@ mutual
       (named_append (atoms_of a) (atoms_of b) k.0 l.0, l.1)
 
 pub condition_named : {ts : List Lined} {s : Syntax} → IsCondition ts s → AreClassed ts → AreNamed (atoms_of s)
-condition_named x h = (disjunction_named x h).0
+condition_named (complete x end) h = (disjunction_named x h).0
 
 -- ---- what is declared
 

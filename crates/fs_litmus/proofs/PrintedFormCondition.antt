@@ -4,7 +4,7 @@ use Rattle.fs_litmus_tokens.specs.Tokens.{Tok, Sign, Lined, word}
 use Rattle.fs_litmus_tokens.specs.Words.{class_of, keyword_of}
 use Rattle.fs_litmus_tokens.specs.declared.token.Mark.TheVariants as mark
 use Rattle.fs_litmus_syntax.specs.Grammar as syntax
-use Rattle.fs_litmus_syntax.specs.Grammar.{Syntax, IsUnit, IsConjunction, IsDisjunction, IsCondition, once, atom, truth, falsity, tilde, group, unit, both, conjunction, either}
+use Rattle.fs_litmus_syntax.specs.Grammar.{Syntax, IsUnit, IsConjunction, IsDisjunction, nothing, IsCondition, complete, once, atom, truth, falsity, tilde, group, unit, both, conjunction, either}
 use Rattle.fs_model.specs.Condition as condition
 use Rattle.fs_model.specs.Condition.{Condition}
 use Rattle.fs_model.specs.declared.test.Location as locations
@@ -77,7 +77,7 @@ units ls (condition.Both c d) fits ts toks are = grouped _ toks (λ more m inner
 units ls (condition.Either c d) fits ts toks are = grouped _ toks (λ more m inner. either_read (syntax_of ls c) (syntax_of ls d) (units ls c fits.0) (units ls d fits.1) more m inner) are
 
 ended : {ts rest : List Lined} {s : Syntax} → IsDisjunction ts s rest → Are rest [] → IsCondition ts s
-ended is none = is
+ended is none = complete is nothing
 
 pub condition_read : {ts : List Lined} (ls : List locations.Location) (c : Condition) → FitsSyntax (syntax_of ls c) → Are ts (syntax_toks (syntax_of ls c)) → IsCondition ts (syntax_of ls c)
 condition_read {ts = ts} ls c fits are =

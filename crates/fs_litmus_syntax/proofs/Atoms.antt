@@ -4,10 +4,10 @@ use Rattle.fs_litmus_tokens.specs.Tokens.{Tok, Lined, Word, Sign}
 use Rattle.fs_litmus_tokens.specs.Sections.{Move, Go, Finish, Bad}
 use Rattle.fs_litmus_tokens.specs.Values.{Target, Value}
 use Rattle.fs_litmus_tokens.specs.declared.word.Class.TheVariants as class
-use Rattle.fs_litmus_tokens.specs.declared.token.Mark.TheVariants.{Equals, Less, Bang, OpenBracket, Tilde, OpenParen, CloseParen, And, Or}
+use Rattle.fs_litmus_tokens.specs.declared.token.Mark.TheVariants.{Equals, Less, Bang, OpenBracket, Tilde, OpenParen, CloseParen, And, Or, Semicolon}
 use Rattle.fs_litmus_syntax.specs.Grammar.{Syntax, True, False, Deny, Both, Either}
 use Rattle.fs_litmus_syntax.specs.Meaning.{atoms_of}
-use Rattle.fs_litmus_syntax.specs.Machine.{AtomPlace, Found, Frame, Place, Begin, AfterNot, AfterTrue, AfterFalse, InAtom, AfterUnit, State, joined, denied, with_denial, start, next_atom, next_begin, finished, atoms_at, product_of, sum_of, next_after, found_unit, place_after, placed, next_in, next, end_in, ended, went, read}
+use Rattle.fs_litmus_syntax.specs.Machine.{AtomPlace, Found, Frame, Place, Begin, AfterNot, AfterTrue, AfterFalse, InAtom, AfterUnit, Whole, State, joined, denied, with_denial, start, next_atom, next_begin, finished, atoms_at, product_of, sum_of, next_after, found_unit, place_after, placed, next_in, next, end_in, ended, went, read}
 use Rattle.fs_litmus_syntax.proofs.Residual.{tree}
 use Rattle.fs_litmus_syntax.proofs.ConditionReading.{Scan}
 
@@ -30,8 +30,13 @@ abbrev place_atoms : Place Syntax → Pairs
 place_atoms (AfterUnit u) = atoms_of u
 place_atoms _ = []
 
+-- before the end of the text, and in each state
+abbrev open_atoms : Place Syntax → Frame Syntax → List (Frame Syntax) → Pairs
+open_atoms p f fs = frames_atoms fs ++ (frame_atoms f ++ place_atoms p)
+
 abbrev state_atoms : Place Syntax → Frame Syntax → List (Frame Syntax) → Pairs
-state_atoms p f fs = frames_atoms fs ++ (frame_atoms f ++ place_atoms p)
+state_atoms (Whole w) f fs = atoms_of w
+state_atoms p f fs = open_atoms p f fs
 
 abbrev AtomsOf : Option (State Syntax) → Pairs → Type 0
 AtomsOf None found = Unit {0}
@@ -78,6 +83,8 @@ after_atoms u f fs (Sign Or) =
 after_atoms u f [] (Sign CloseParen) = tt
 after_atoms u f (g ∷ fs) (Sign CloseParen) =
     ap (λ a. frames_atoms fs ++ (frame_atoms g ++ a)) (sum_atoms f u) ∙ sym (append_assoc (frames_atoms fs) (frame_atoms g) (frame_atoms f ++ atoms_of u))
+after_atoms u f [] (Sign Semicolon) = sum_atoms f u
+after_atoms u f (g ∷ fs) (Sign Semicolon) = tt
 after_atoms u f fs _ = tt
 
 found_atoms : (d : Bool) (t : Target) (v : Value) → atoms_of (found_unit tree d t v) ≡ (t, v) ∷ []
@@ -105,31 +112,43 @@ next_atoms (AfterFalse w) f fs (Sign Bang) = refl
 next_atoms (AfterFalse w) f fs t = after_atoms False f fs t
 next_atoms (InAtom p) f fs t = in_atom_atoms (next_atom p t) f fs
 next_atoms (AfterUnit u) f fs t = subst (λ a. AtomsOf (next_after tree u f fs t) (frames_atoms fs ++ (frame_atoms f ++ a))) (sym (append-nil (atoms_of u))) (after_atoms u f fs t)
+next_atoms (Whole w) f fs t = tt
 
 abbrev pub HasAtoms : Scan → Type 0
 HasAtoms (Ok x) = x.1 ≡ atoms_of x.0
 HasAtoms (Err rest) = Unit {0}
 
 end_atoms : (p : Place Syntax) (f : Frame Syntax) (fs : List (Frame Syntax)) (found : Pairs) → found ≡ state_atoms p f fs → HasAtoms (ended tree (end_in tree p f fs) found)
-end_atoms p f (g ∷ fs) found e = tt
+end_atoms (Whole w) f [] found e = e
+end_atoms (Whole w) f (g ∷ fs) found e = e
 end_atoms (AfterTrue w) f [] found e = e ∙ sym (sum_atoms f True)
 end_atoms (AfterFalse w) f [] found e = e ∙ sym (sum_atoms f False)
 end_atoms (AfterUnit u) f [] found e = e ∙ sym (sum_atoms f u)
 end_atoms _ f [] found e = tt
+end_atoms _ f (g ∷ fs) found e = tt
 
 went_atoms : (o : Option (State Syntax)) (found : Pairs) (ts us : List Lined) → AtomsOf o found → ((s : State Syntax) → found ≡ state_atoms s.place s.frame s.below → HasAtoms (read tree s found ts)) → HasAtoms (went tree o (λ s. read tree s found ts) us)
 went_atoms None found ts us h later = tt
 went_atoms (Some s) found ts us h later = later s (sym h)
 
+open_next : (p : Place Syntax) (f : Frame Syntax) (fs : List (Frame Syntax)) (t : Tok) (found : Pairs) → found ≡ open_atoms p f fs → AtomsOf (next_in tree p f fs t) (found ++ atoms_at p t)
+open_next p f fs t found e =
+    let more = atoms_at p t in
+    let regroup : found ++ more ≡ frames_atoms fs ++ (frame_atoms f ++ (place_atoms p ++ more)) =
+    ap (λ a. a ++ more) e
+    ∙ append_assoc (frames_atoms fs) (frame_atoms f ++ place_atoms p) more
+    ∙ ap (λ a. frames_atoms fs ++ a) (append_assoc (frame_atoms f) (place_atoms p) more) in
+    subst (AtomsOf (next_in tree p f fs t)) (sym regroup) (next_atoms p f fs t)
+
+found_next : (p : Place Syntax) (f : Frame Syntax) (fs : List (Frame Syntax)) (t : Tok) (found : Pairs) → found ≡ state_atoms p f fs → AtomsOf (next_in tree p f fs t) (found ++ atoms_at p t)
+found_next (Whole w) f fs t found e = tt
+found_next p f fs t found e = open_next p f fs t found e
+
 read_atoms : (s : State Syntax) (found : Pairs) (ts : List Lined) → found ≡ state_atoms s.place s.frame s.below → HasAtoms (read tree s found ts)
 read_atoms s found [] e = end_atoms s.place s.frame s.below found e
 read_atoms s found (x ∷ ts) e =
     let more = atoms_at s.place x.0 in
-    let regroup : found ++ more ≡ frames_atoms s.below ++ (frame_atoms s.frame ++ (place_atoms s.place ++ more)) =
-    ap (λ a. a ++ more) e
-    ∙ append_assoc (frames_atoms s.below) (frame_atoms s.frame ++ place_atoms s.place) more
-    ∙ ap (λ a. frames_atoms s.below ++ a) (append_assoc (frame_atoms s.frame) (place_atoms s.place) more) in
-    went_atoms (next tree s x.0) (found ++ more) ts (x ∷ ts) (subst (AtomsOf (next tree s x.0)) (sym regroup) (next_atoms s.place s.frame s.below x.0)) (λ s' e'. read_atoms s' (found ++ more) ts e')
+    went_atoms (next tree s x.0) (found ++ more) ts (x ∷ ts) (found_next s.place s.frame s.below x.0 found e) (λ s' e'. read_atoms s' (found ++ more) ts e')
 
 pub has_atoms : (ts : List Lined) → HasAtoms (read tree start [] ts)
 has_atoms ts = read_atoms start [] ts refl

@@ -7,11 +7,11 @@ use Rattle.fs_litmus_tokens.specs.Tokens.{Tok, Lined, Word, Sign}
 use Rattle.fs_litmus_tokens.specs.Sections.{Move, Go, Finish, Bad}
 use Rattle.fs_litmus_tokens.specs.Values.{Target, Value}
 use Rattle.fs_litmus_tokens.specs.declared.word.Class.TheVariants as class
-use Rattle.fs_litmus_tokens.specs.declared.token.Mark.TheVariants.{Equals, Less, Bang, OpenBracket, Tilde, OpenParen, CloseParen, And, Or}
+use Rattle.fs_litmus_tokens.specs.declared.token.Mark.TheVariants.{Equals, Less, Bang, OpenBracket, Tilde, OpenParen, CloseParen, And, Or, Semicolon}
 use Rattle.fs_litmus_syntax.specs.Grammar.{Syntax, Atom, True, False, Deny, Group, Both, Either}
 use Rattle.fs_litmus_syntax.specs.Meaning as meaning
 use Rattle.fs_litmus_syntax.specs.Meaning.{Condition, condition_of, written_depth, grouped_depth}
-use Rattle.fs_litmus_syntax.specs.Machine.{AtomPlace, Found, Frame, Place, Begin, AfterNot, AfterTrue, AfterFalse, InAtom, AfterUnit, State, joined, denied, with_denial, at, start, next_atom, next_begin, atoms_at, product_of, sum_of, next_after, found_unit, place_after, placed, next_in, next, end_in, end_of, ended, went, read}
+use Rattle.fs_litmus_syntax.specs.Machine.{AtomPlace, Found, Frame, Place, Begin, AfterNot, AfterTrue, AfterFalse, InAtom, AfterUnit, Whole, State, joined, denied, empty, with_denial, at, start, next_atom, next_begin, atoms_at, product_of, sum_of, next_after, found_unit, place_after, placed, next_in, next, whole_of, end_in, end_of, ended, went, read}
 use Rattle.fs_litmus_syntax.specs.Limited as limits
 use Rattle.fs_litmus_syntax.specs.Limited.{Bounded, Deep, Fine, connected, in_parentheses, limited, bounded}
 use Rattle.fs_litmus_syntax.proofs.Residual.{tree}
@@ -60,6 +60,7 @@ place_map (AfterTrue w) = AfterTrue w
 place_map (AfterFalse w) = AfterFalse w
 place_map (InAtom p) = InAtom p
 place_map (AfterUnit u) = AfterUnit (bounded u)
+place_map (Whole u) = Whole (bounded u)
 
 abbrev frames_map : List (Frame Syntax) → List (Frame Bounded)
 frames_map [] = []
@@ -102,6 +103,8 @@ after_bounded u f fs (Sign Or) =
 after_bounded u f [] (Sign CloseParen) = refl
 after_bounded u f (g ∷ fs) (Sign CloseParen) =
     ap (λ x. Some (at (AfterUnit x) (frame_map g) (frames_map fs))) (ap in_parentheses (sum_bounded f u) ∙ group_bounded (sum_of tree f u))
+after_bounded u f [] (Sign Semicolon) = ap (λ x. Some (at (Whole x) empty [])) (sum_bounded f u)
+after_bounded u f (g ∷ fs) (Sign Semicolon) = refl
 after_bounded u f fs _ = refl
 
 found_bounded : (d : Bool) (t : Target) (v : Value) → found_unit limited d t v ≡ bounded (found_unit tree d t v)
@@ -130,13 +133,18 @@ next_bounded (AfterFalse w) f fs (Sign Bang) = refl
 next_bounded (AfterFalse w) f fs t = after_bounded False f fs t
 next_bounded (InAtom p) f fs t = atom_bounded (next_atom p t) f fs
 next_bounded (AfterUnit u) f fs t = after_bounded u f fs t
+next_bounded (Whole u) f fs t = refl
+
+whole_bounded : (p : Place Syntax) → whole_of (place_map p) ≡ option_map bounded (whole_of p)
+whole_bounded (Whole u) = refl
+whole_bounded _ = refl
 
 end_bounded : (p : Place Syntax) (f : Frame Syntax) (fs : List (Frame Syntax)) → end_in limited (place_map p) (frame_map f) (frames_map fs) ≡ option_map bounded (end_in tree p f fs)
-end_bounded p f (g ∷ fs) = refl
 end_bounded (AfterTrue w) f [] = ap Some (sum_bounded f True)
 end_bounded (AfterFalse w) f [] = ap Some (sum_bounded f False)
 end_bounded (AfterUnit u) f [] = ap Some (sum_bounded f u)
 end_bounded _ f [] = refl
+end_bounded p f (g ∷ fs) = whole_bounded p
 
 atoms_bounded : (p : Place Syntax) (t : Tok) → atoms_at (place_map p) t ≡ atoms_at p t
 atoms_bounded (InAtom p) t = refl

@@ -1,14 +1,14 @@
 -- What the tokens to come must be, in each state of the reader, by the grammar alone.
-use Rattle.std.proofs.Common.{◌≡◌, ℕ, zero, suc, ◌+◌, Bool, true, false, List, [], ◌∷◌, Option, Some, None, refl, sym, ap, subst, add-one}
+use Rattle.std.proofs.Common.{◌≡◌, ℕ, zero, suc, ◌+◌, Bool, true, false, List, [], ◌∷◌, Option, Some, None, refl, sym, ap, ◌∙◌, subst, add-one}
 use Rattle.fs_litmus_tokens.specs.Words.{is_name}
 use Rattle.fs_litmus_tokens.specs.Tokens.{Tok, Lined, Word, Sign}
 use Rattle.fs_litmus_tokens.specs.Values.{Target, Register, Location, Value, Number, Address, IsTarget, register, location, bracketed, IsValue, number, minus, address}
 use Rattle.fs_litmus_tokens.specs.Sections.{Go, Finish}
 use Rattle.fs_litmus_tokens.specs.declared.word.Class.{Class}
 use Rattle.fs_litmus_tokens.specs.declared.word.Class.TheVariants as class
-use Rattle.fs_litmus_tokens.specs.declared.token.Mark.TheVariants.{Colon, Equals, Less, Greater, Bang, OpenBracket, CloseBracket, Minus, Tilde, OpenParen, CloseParen, And, Or}
-use Rattle.fs_litmus_syntax.specs.Grammar.{Syntax, Atom, True, False, Deny, Group, Both, Either, IsEqual, once, twice, IsUnequal, less_greater, bang_equals, IsUnit, atom, other, truth, falsity, tilde, denial, group, IsConjunction, unit, both, IsDisjunction, conjunction, either, IsCondition}
-use Rattle.fs_litmus_syntax.specs.Machine.{AtomPlace, AfterHart, AfterColon, AfterBracket, AfterName, AfterTarget, AfterLess, AfterBang, AfterEquals, BeforeValue, AfterMinus, compared_by, value_begun, next_atom, Maker, Frame, Place, Begin, AfterNot, AfterTrue, AfterFalse, InAtom, AfterUnit, State, joined, denied, at, with_denial, start, next_begin, named_or, product_of, sum_of, next_after, found_unit, place_after, placed, next_in, end_in}
+use Rattle.fs_litmus_tokens.specs.declared.token.Mark.TheVariants.{Colon, Equals, Less, Greater, Bang, OpenBracket, CloseBracket, Minus, Tilde, OpenParen, CloseParen, And, Or, Semicolon}
+use Rattle.fs_litmus_syntax.specs.Grammar.{Syntax, Atom, True, False, Deny, Group, Both, Either, IsEqual, once, twice, IsUnequal, less_greater, bang_equals, IsUnit, atom, other, truth, falsity, tilde, denial, group, IsConjunction, unit, both, IsDisjunction, conjunction, either, IsTextEnd, nothing, semicolon, IsCondition, complete}
+use Rattle.fs_litmus_syntax.specs.Machine.{AtomPlace, AfterHart, AfterColon, AfterBracket, AfterName, AfterTarget, AfterLess, AfterBang, AfterEquals, BeforeValue, AfterMinus, compared_by, value_begun, next_atom, Maker, Frame, Place, Begin, AfterNot, AfterTrue, AfterFalse, InAtom, AfterUnit, Whole, State, joined, denied, at, with_denial, start, next_begin, named_or, product_of, sum_of, next_after, found_unit, place_after, placed, next_in, end_in}
 
 -- the syntax itself
 abbrev pub tree : Maker Syntax
@@ -66,7 +66,7 @@ disjunction_join p (plus u t) = disjunction_join (either p u) t
 
 -- no tokens
 pub data IsEmpty : List Lined → Type 0 where
-  nothing : IsEmpty []
+  no_more : IsEmpty []
 
 -- a closing parenthesis, and then a rest
 pub data IsClosing : List Lined → List Lined → Type 0 where
@@ -85,7 +85,7 @@ pub record Inside (K : List Lined → Syntax → Type 0) (before : Option Syntax
 
 -- With a value of the innermost frame read, the tokens close the frames around it and the text, whose syntax is c.
 abbrev pub Closes : List (Frame Syntax) → Syntax → List Lined → Syntax → Type 0
-Closes [] c m w = IsEmpty m × (w ≡ c)
+Closes [] c m w = IsTextEnd m × (w ≡ c)
 Closes (g ∷ fs) c m w = (r : List Lined) × IsClosing m r × Inside (Closes fs c) g.sum (product_of tree g (Group w)) r
 
 -- after a unit
@@ -137,6 +137,7 @@ LeftIn (AfterTrue w) f fs ts c = Decided (AtomTo (AfterTarget (Location w)) f fs
 LeftIn (AfterFalse w) f fs ts c = Decided (AtomTo (AfterTarget (Location w)) f fs ts c) (UnitRead f fs False ts c)
 LeftIn (InAtom p) f fs ts c = AtomTo p f fs ts c
 LeftIn (AfterUnit u) f fs ts c = UnitRead f fs u ts c
+LeftIn (Whole w) f fs ts c = IsEmpty ts × (w ≡ c)
 
 abbrev pub Left : State Syntax → List Lined → Syntax → Type 0
 Left s ts c = LeftIn s.place s.frame s.below ts c
@@ -206,6 +207,9 @@ begin_forward {mid = m} c f fs (group {k = j} x) k =
 close_forward : {x : Lined} {ts r : List Lined} {read : Syntax} (u c : Syntax) (f g : Frame Syntax) (fs : List (Frame Syntax)) → read ≡ product_of tree f u → IsClosing (x ∷ ts) r → Inside (Closes fs c) g.sum (product_of tree g (Group (joined Either f.sum read))) r → LeftOf (next_after tree u f (g ∷ fs) x.0) ts c
 close_forward {r = r} u c f g fs e closing k = subst (λ q. UnitRead g fs (Group (joined Either f.sum q)) r c) e k
 
+semicolon_forward : {x : Lined} {ts : List Lined} {read : Syntax} (u c : Syntax) (f : Frame Syntax) → read ≡ product_of tree f u → IsTextEnd (x ∷ ts) → joined Either f.sum read ≡ c → LeftOf (next_after tree u f [] x.0) ts c
+semicolon_forward u c f e semicolon k = (no_more, ap (joined Either f.sum) (sym e) ∙ k)
+
 after_forward : {x : Lined} {ts mid rest : List Lined} {read p w : Syntax} (u c : Syntax) (f : Frame Syntax) (fs : List (Frame Syntax)) → read ≡ product_of tree f u → ConjunctionTail read (x ∷ ts) p mid → DisjunctionTail (joined Either f.sum p) mid w rest → Closes fs c rest w → LeftOf (next_after tree u f fs x.0) ts c
 after_forward {mid = m} {rest = r} {p = p} {w = w} u c f fs e (more {b = b} {ts = ts} {mid = m1} x tail) sums k =
     subst (λ q. UnitTo (record { sum = f.sum; product = Some q; denials = 0 }) fs ts c) e
@@ -214,7 +218,7 @@ after_forward {rest = r} {w = w} u c f fs e done (plus {b = b} {ts = ts} {mid = 
     let s = conjunction_split x in
     subst (λ q. UnitTo (record { sum = Some (joined Either f.sum q); product = None; denials = 0 }) fs ts c) e
     (record { value = s.first; mid = s.mid; is_unit = s.is_unit; then = record { product = b; value = w; mid = m; rest = r; products = s.tail; sums = tail; then = k } })
-after_forward u c f [] e done end k = elim k.0 [ ]
+after_forward u c f [] e done end k = semicolon_forward u c f e k.0 k.1
 after_forward u c f (g ∷ fs) e done end (r, close, k) = close_forward u c f g fs e close k
 
 -- a word with the sign of an atom after it names a location
@@ -275,6 +279,9 @@ atom_forward {mid = m} {t = t} {d = d} c f fs (before_value (address {w = w} {c 
     subst (λ q. LeftOf (placed (place_after tree q) f fs) m c) (sym (value_word n d t w e)) k
 atom_forward c f fs after_minus k = k
 
+no_empty : {x : Lined} {ts : List Lined} → IsEmpty (x ∷ ts) → ⊥
+no_empty h = elim h [ ]
+
 -- the tokens to come, after one more token
 pub forward : (p : Place Syntax) (f : Frame Syntax) (fs : List (Frame Syntax)) (x : Lined) (ts : List Lined) (c : Syntax) → LeftIn p f fs (x ∷ ts) c → LeftOf (next_in tree p f fs x.0) ts c
 forward Begin f fs x ts c h = begin_forward c f fs h.is_unit h.then
@@ -286,6 +293,7 @@ forward (AfterFalse w) f fs x ts c (names h) = named_forward w c f fs (λ u. nex
 forward (AfterFalse w) f fs x ts c (says h) = false_forward w f fs x.0 ts c (after_forward False c f fs refl h.products h.sums h.then)
 forward (InAtom p) f fs x ts c h = atom_forward c f fs h.is_atom h.then
 forward (AfterUnit u) f fs x ts c h = after_forward u c f fs refl h.products h.sums h.then
+forward (Whole w) f fs x ts c h = absurd (no_empty h.0)
 
 -- ---- the same the other way
 
@@ -323,6 +331,10 @@ begin_backward f fs (Sign Tilde) k ts c h = without_denial c f fs (tilde h.is_un
 begin_backward f fs (Sign OpenParen) k ts c h = parens_back k c f fs h.is_unit h.then.products h.then.sums h.then.then
 begin_backward f fs _ k ts c h = absurd h
 
+semicolon_back : {ts : List Lined} (u c : Syntax) (f : Frame Syntax) (k : ℕ) → IsEmpty ts → sum_of tree f u ≡ c → UnitRead f [] u ((Sign Semicolon, k) ∷ ts) c
+semicolon_back u c f k no_more e =
+    record { product = product_of tree f u; value = sum_of tree f u; mid = (Sign Semicolon, k) ∷ []; rest = (Sign Semicolon, k) ∷ []; products = done; sums = end; then = (semicolon, e) }
+
 after_backward : (u : Syntax) (f : Frame Syntax) (fs : List (Frame Syntax)) (t : Tok) (k : ℕ) (ts : List Lined) (c : Syntax) → LeftOf (next_after tree u f fs t) ts c → UnitRead f fs u ((t, k) ∷ ts) c
 after_backward u f fs (Sign And) k ts c h =
     record { product = h.then.product; value = h.then.value; mid = h.then.mid; rest = h.then.rest; products = more h.is_unit h.then.products; sums = h.then.sums; then = h.then.then }
@@ -331,6 +343,8 @@ after_backward u f fs (Sign Or) k ts c h =
 after_backward u f [] (Sign CloseParen) k ts c h = absurd h
 after_backward u f (g ∷ fs) (Sign CloseParen) k ts c h =
     record { product = product_of tree f u; value = sum_of tree f u; mid = (Sign CloseParen, k) ∷ ts; rest = (Sign CloseParen, k) ∷ ts; products = done; sums = end; then = (ts, closing, h) }
+after_backward u f [] (Sign Semicolon) k ts c h = semicolon_back u c f k h.0 h.1
+after_backward u f (g ∷ fs) (Sign Semicolon) k ts c h = absurd h
 after_backward u f fs _ k ts c h = absurd h
 
 minus_back : {s t : Target} {ts mid : List Lined} {v : Value} {e d : Bool} (k : ℕ) → AtomLeft (AfterMinus e s) d ts t v mid → AtomLeft (BeforeValue e s) d ((Sign Minus, k) ∷ ts) t v mid
@@ -388,6 +402,7 @@ backward (AfterFalse w) f fs (Sign Bang) k ts c h = names (record { target = h.t
 backward (AfterFalse w) f fs t k ts c h = says (after_backward False f fs t k ts c h)
 backward (InAtom p) f fs t k ts c h = atom_backward p f fs t k ts c h
 backward (AfterUnit u) f fs t k ts c h = after_backward u f fs t k ts c h
+backward (Whole w) f fs t k ts c h = absurd h
 
 -- ---- where the text may end
 
@@ -431,16 +446,20 @@ end_forward (AfterFalse w) f (g ∷ fs) c (says h) = absurd (unit_open False f g
 end_forward (InAtom p) f fs c h = absurd (no_atom h.is_atom)
 end_forward (AfterUnit u) f [] c h = unit_ends u f c h
 end_forward (AfterUnit u) f (g ∷ fs) c h = absurd (unit_open u f g fs c h)
+end_forward (Whole w) f [] c h = ap Some h.1
+end_forward (Whole w) f (g ∷ fs) c h = ap Some h.1
 
 unit_ended : (u : Syntax) (f : Frame Syntax) (c : Syntax) → sum_of tree f u ≡ c → UnitRead f [] u [] c
 unit_ended u f c e = record { product = product_of tree f u; value = sum_of tree f u; mid = []; rest = []; products = done; sums = end; then = (nothing, e) }
 
 pub end_backward : (p : Place Syntax) (f : Frame Syntax) (fs : List (Frame Syntax)) (c : Syntax) → end_in tree p f fs ≡ Some c → LeftIn p f fs [] c
-end_backward p f (g ∷ fs) c e = absurd (cc)
+end_backward (Whole w) f [] c e = (no_more, cc)
+end_backward (Whole w) f (g ∷ fs) c e = (no_more, cc)
 end_backward (AfterTrue w) f [] c e = says (unit_ended True f c (cc))
 end_backward (AfterFalse w) f [] c e = says (unit_ended False f c (cc))
 end_backward (AfterUnit u) f [] c e = unit_ended u f c (cc)
 end_backward _ f [] c e = absurd (cc)
+end_backward _ f (g ∷ fs) c e = absurd (cc)
 
 -- ---- each state can be completed
 
@@ -528,17 +547,18 @@ live (InAtom p) f fs =
     let x = after_live f fs (found_unit tree (live_denies p) (live_target p) (live_value p)) in
     (live_tokens p x.0, x.1, record { target = live_target p; value = live_value p; denies = live_denies p; mid = x.0; is_atom = atom_live p x.0; then = x.2 })
 live (AfterUnit u) f fs = after_live f fs u
+live (Whole w) f fs = ([], w, (no_more, refl))
 
 -- ---- the start
 
 pub start_forward : (ts : List Lined) (c : Syntax) → IsCondition ts c → Left start ts c
-start_forward ts c h =
+start_forward ts c (complete {rest = r} h stop) =
     let s = disjunction_split h in
     let p = conjunction_split s.is_conjunction in
-    record { value = p.first; mid = p.mid; is_unit = p.is_unit; then = record { product = s.first; value = c; mid = s.mid; rest = []; products = p.tail; sums = s.tail; then = (nothing, refl) } }
+    record { value = p.first; mid = p.mid; is_unit = p.is_unit; then = record { product = s.first; value = c; mid = s.mid; rest = r; products = p.tail; sums = s.tail; then = (stop, refl) } }
 
-condition_from : {ts rest : List Lined} {w c : Syntax} → IsDisjunction ts w rest → IsEmpty rest → w ≡ c → IsCondition ts c
-condition_from {ts = ts} s nothing e = subst (λ w. IsDisjunction ts w []) e s
+condition_from : {ts rest : List Lined} {w c : Syntax} → IsDisjunction ts w rest → IsTextEnd rest → w ≡ c → IsCondition ts c
+condition_from {ts = ts} s stop e = subst (λ w. IsCondition ts w) e (complete s stop)
 
 pub start_backward : (ts : List Lined) (c : Syntax) → Left start ts c → IsCondition ts c
 start_backward ts c h = condition_from (disjunction_join (conjunction (conjunction_join (unit h.is_unit) h.then.products)) h.then.sums) h.then.then.0 h.then.then.1

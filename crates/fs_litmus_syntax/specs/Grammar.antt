@@ -4,7 +4,7 @@ use Rattle.std.specs.Prelude.{ℕ, List, [], ◌∷◌}
 use Rattle.fs_litmus_tokens.specs.Tokens.{Lined, Word, Sign}
 use Rattle.fs_litmus_tokens.specs.Values.{Target, Value, IsTarget, IsValue}
 use Rattle.fs_litmus_tokens.specs.declared.word.Class.TheVariants.{NotWord, TrueWord, FalseWord}
-use Rattle.fs_litmus_tokens.specs.declared.token.Mark.TheVariants.{Equals, Less, Greater, Bang, Tilde, OpenParen, CloseParen, And, Or}
+use Rattle.fs_litmus_tokens.specs.declared.token.Mark.TheVariants.{Equals, Less, Greater, Bang, Tilde, OpenParen, CloseParen, And, Or, Semicolon}
 
 -- a condition as it is written; a group stands in parentheses
 pub data Syntax : Type 0 where
@@ -46,6 +46,11 @@ mutual
     conjunction : {s : Syntax} {ts rest : List Lined} → IsConjunction ts s rest → IsDisjunction ts s rest
     either : {a b : Syntax} {k : ℕ} {ts mid rest : List Lined} → IsDisjunction ts a ((Sign Or, k) ∷ mid) → IsConjunction mid b rest → IsDisjunction ts (Either a b) rest
 
--- the tokens are a condition, and nothing follows it
-abbrev pub IsCondition : List Lined → Syntax → Type 0
-IsCondition ts s = IsDisjunction ts s []
+-- nothing, or a semicolon
+pub data IsTextEnd : List Lined → Type 0 where
+  nothing : IsTextEnd []
+  semicolon : {k : ℕ} → IsTextEnd ((Sign Semicolon, k) ∷ [])
+
+-- the tokens are a condition, and nothing but a semicolon follows it
+pub data IsCondition : List Lined → Syntax → Type 0 where
+  complete : {s : Syntax} {ts rest : List Lined} → IsDisjunction ts s rest → IsTextEnd rest → IsCondition ts s

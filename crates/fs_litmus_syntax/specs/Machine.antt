@@ -4,7 +4,7 @@ use Rattle.fs_litmus_tokens.specs.Tokens.{Tok, Lined, Word, Sign}
 use Rattle.fs_litmus_tokens.specs.Sections.{Move, Go, Finish, Bad}
 use Rattle.fs_litmus_tokens.specs.Values.{Target, Register, Location, Value, Number, Address}
 use Rattle.fs_litmus_tokens.specs.declared.word.Class.TheVariants as class
-use Rattle.fs_litmus_tokens.specs.declared.token.Mark.TheVariants.{Colon, Equals, Less, Greater, Bang, OpenBracket, CloseBracket, Minus, Tilde, OpenParen, CloseParen, And, Or}
+use Rattle.fs_litmus_tokens.specs.declared.token.Mark.TheVariants.{Colon, Equals, Less, Greater, Bang, OpenBracket, CloseBracket, Minus, Tilde, OpenParen, CloseParen, And, Or, Semicolon}
 
 -- ---- atoms
 
@@ -85,6 +85,8 @@ pub data Place (X : Type 0) : Type 0 where
   AfterFalse : (word : List ℕ) → Place X
   InAtom : AtomPlace → Place X
   AfterUnit : X → Place X
+  -- the semicolon behind this whole
+  Whole : X → Place X
 
 pub record State (X : Type 0) : Type 0 where
   pub place : Place X
@@ -112,6 +114,11 @@ at p f fs = record { place = p; frame = f; below = fs }
 abbrev pub put_off : {X : Type 0} → Place X → ℕ
 put_off (AfterNot w) = 1
 put_off _ = 0
+
+-- the whole before a semicolon
+abbrev pub whole_of : {X : Type 0} → Place X → Option X
+whole_of (Whole x) = Some x
+whole_of _ = None
 
 abbrev pub start : {X : Type 0} → State X
 start = at Begin empty []
@@ -165,10 +172,16 @@ module _ {X : Type 0} (make : Maker X) where
   closed f [] u = None
   closed f (g ∷ fs) u = Some (at (AfterUnit (make.group (sum_of f u))) g fs)
 
+  -- a semicolon stands behind the whole
+  abbrev pub completed : Frame X → List (Frame X) → X → Option (State X)
+  completed f [] u = Some (at (Whole (sum_of f u)) empty [])
+  completed f (g ∷ fs) u = None
+
   abbrev pub next_after : X → Frame X → List (Frame X) → Tok → Option (State X)
   next_after u f fs (Sign And) = Some (at Begin (with_unit f u) fs)
   next_after u f fs (Sign Or) = Some (at Begin (with_conjunction f u) fs)
   next_after u f fs (Sign CloseParen) = closed f fs u
+  next_after u f fs (Sign Semicolon) = completed f fs u
   next_after u f fs _ = None
 
   abbrev pub found_unit : Bool → Target → Value → X
@@ -187,25 +200,23 @@ module _ {X : Type 0} (make : Maker X) where
   next_in (AfterFalse w) f fs t = named_or (compared_by (Location w) t) f fs (next_after make.falsity f fs t)
   next_in (InAtom p) f fs t = placed (place_after (next_atom p t)) f fs
   next_in (AfterUnit u) f fs t = next_after u f fs t
+  next_in (Whole x) f fs t = None
 
   abbrev pub next : State X → Tok → Option (State X)
   next s t = next_in s.place s.frame s.below t
 
-  -- the last unit, where a condition may end
-  abbrev pub last_unit : Place X → Option X
-  last_unit (AfterTrue w) = Some make.truth
-  last_unit (AfterFalse w) = Some make.falsity
-  last_unit (AfterUnit u) = Some u
-  last_unit _ = None
-
-  abbrev pub total : Frame X → Option X → Option X
-  total f None = None
-  total f (Some u) = Some (sum_of f u)
+  -- the whole, where no parenthesis is open and the text may end
+  abbrev pub end_at : Place X → Frame X → Option X
+  end_at (AfterTrue w) f = Some (sum_of f make.truth)
+  end_at (AfterFalse w) f = Some (sum_of f make.falsity)
+  end_at (AfterUnit u) f = Some (sum_of f u)
+  end_at (Whole x) f = Some x
+  end_at _ f = None
 
   -- the whole, where the text may end
   abbrev pub end_in : Place X → Frame X → List (Frame X) → Option X
-  end_in p f [] = total f (last_unit p)
-  end_in p f (g ∷ fs) = None
+  end_in p f [] = end_at p f
+  end_in p f (g ∷ fs) = whole_of p
 
   abbrev pub end_of : State X → Option X
   end_of s = end_in s.place s.frame s.below

@@ -22,7 +22,7 @@ use Rattle.fs_litmus_syntax.specs.declared.reader.Place as spots
 use Rattle.fs_litmus_syntax.specs.declared.reader.Place.TheVariants as spot
 use Rattle.fs_litmus_syntax.specs.declared.reader.Reader.{Reader}
 use Rattle.fs_litmus_syntax.specs.Meaning.{Condition, Atom, True, False, Deny, Both, Either}
-use Rattle.fs_litmus_syntax.specs.Machine.{AtomPlace, AfterHart, AfterColon, AfterBracket, AfterName, AfterTarget, AfterLess, AfterBang, AfterEquals, BeforeValue, AfterMinus, Found, Frame, Place, Begin, AfterNot, AfterTrue, AfterFalse, InAtom, AfterUnit, State}
+use Rattle.fs_litmus_syntax.specs.Machine.{AtomPlace, AfterHart, AfterColon, AfterBracket, AfterName, AfterTarget, AfterLess, AfterBang, AfterEquals, BeforeValue, AfterMinus, Found, Frame, Place, Begin, AfterNot, AfterTrue, AfterFalse, InAtom, AfterUnit, Whole, State}
 use Rattle.fs_litmus_syntax.specs.Limited.{Bounded, Deep, Fine}
 
 abbrev pub atom_of : atoms.Atom → Target × Value
@@ -72,6 +72,7 @@ place_of (spot.AfterTrue w) = AfterTrue w.now
 place_of (spot.AfterFalse w) = AfterFalse w.now
 place_of (spot.InAtom p) = InAtom (atom_place_of p)
 place_of (spot.AfterUnit u) = AfterUnit (subformula_of u)
+place_of (spot.Whole x) = Whole (subformula_of x)
 
 -- the innermost layer is the last
 abbrev pub below_of : List Layer → List (Frame Bounded) → List (Frame Bounded)

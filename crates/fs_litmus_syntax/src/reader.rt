@@ -6,8 +6,9 @@ ghost use Rattle.fs_litmus_syntax.specs.Grammar.{Syntax, IsCondition};
 ghost use Rattle.fs_litmus_syntax.specs.Answer.{Means, StopsAt};
 ghost use Rattle.fs_litmus_tokens.specs.Values.{Location, target_of, value_of};
 ghost use Rattle.fs_litmus_syntax.specs.Machine.{next_begin, next_after, compared_by, named_or, found_unit, closed};
+ghost use Rattle.fs_litmus_syntax.specs.Machine.{completed, whole_of, end_at};
 ghost use Rattle.fs_litmus_syntax.specs.Machine.{finished, next_atom, at, InAtom, atoms_at, put_off, place_after};
-ghost use Rattle.fs_litmus_syntax.specs.Machine.{next, last_unit, end_of, read, start};
+ghost use Rattle.fs_litmus_syntax.specs.Machine.{next, end_of, read, start};
 ghost use Rattle.fs_litmus_syntax.specs.Limited.{Fine, limited};
 ghost use Rattle.fs_litmus_syntax.specs.Views.{subformula_of, tree_of, atom_of, atom_place_of, layer_of, below_of};
 ghost use Rattle.fs_litmus_syntax.specs.Views.{place_of, reader_of, Gives};
@@ -29,6 +30,8 @@ enum Place<'a> {
     AfterFalse(&'a str),
     InAtom(AtomPlace<'a>),
     AfterUnit(Subformula<'a>),
+    /// The semicolon behind this whole.
+    Whole(Subformula<'a>),
 }
 
 /// What is read so far of a condition, but for its atoms: the layers of the parentheses that are open, the innermost
@@ -112,6 +115,27 @@ fn close<'a>(
     }
 }
 
+/// A semicolon behind the whole.
+fn complete<'a>(
+    alloc: Global,
+    unit: Subformula<'a>,
+    layer: Layer<'a>,
+    below: Vec<Layer<'a>>,
+) -> Result<Option<Reader<'a>>, AllocError>
+    ensures { IfOk result (λ r. option_map reader_of r
+        ≡ completed limited (layer_of layer.entry) (below_of below.entry.items []) (subformula_of unit.entry)) }
+{
+    if !below.is_empty() {
+        return Ok(None);
+    }
+    let whole = layer.total(alloc, unit)?;
+    Ok(Some(Reader {
+        place: Place::Whole(whole),
+        layer: Layer::new(),
+        below,
+    }))
+}
+
 /// After a unit.
 fn after<'a>(
     alloc: Global,
@@ -147,6 +171,7 @@ fn after<'a>(
             }))
         }
         Kind::Sign(Mark::CloseParen) => close(alloc, unit, layer, below),
+        Kind::Sign(Mark::Semicolon) => complete(alloc, unit, layer, below),
         _ => Ok(None),
     }
 }
@@ -253,19 +278,37 @@ fn step<'a>(
             None => Ok(None),
         },
         Place::AfterUnit(unit) => after(alloc, unit, layer, below, kind),
+        Place::Whole(_) => Ok(None),
     }
 }
 
-/// The last unit, where the text may end.
-fn last_unit<'a>(alloc: Global, place: Place<'a>) -> Result<Option<Subformula<'a>>, AllocError>
-    ensures { IfOk result (λ u. option_map subformula_of u ≡ last_unit limited (place_of place.entry)) }
+/// The whole before a semicolon.
+fn whole_of<'a>(place: Place<'a>) -> Option<Subformula<'a>>
+    ensures { option_map subformula_of result ≡ whole_of (place_of place.entry) }
 {
     match place {
-        Place::AfterTrue(_) => Ok(Some(Subformula::leaf(alloc, Tree::True)?)),
-        Place::AfterFalse(_) => Ok(Some(Subformula::leaf(alloc, Tree::False)?)),
-        Place::AfterUnit(unit) => Ok(Some(unit)),
-        _ => Ok(None),
+        Place::Whole(whole) => Some(whole),
+        _ => None,
     }
+}
+
+/// The whole, where no parenthesis is open and the text may end.
+fn end_at<'a>(
+    alloc: Global,
+    place: Place<'a>,
+    layer: Layer<'a>,
+) -> Result<Option<Subformula<'a>>, AllocError>
+    ensures { IfOk result (λ p. option_map subformula_of p
+        ≡ end_at limited (place_of place.entry) (layer_of layer.entry)) }
+{
+    let unit = match place {
+        Place::AfterTrue(_) => Subformula::leaf(alloc, Tree::True)?,
+        Place::AfterFalse(_) => Subformula::leaf(alloc, Tree::False)?,
+        Place::AfterUnit(unit) => unit,
+        Place::Whole(whole) => return Ok(Some(whole)),
+        _ => return Ok(None),
+    };
+    Ok(Some(layer.total(alloc, unit)?))
 }
 
 /// The whole, where the text may end.
@@ -278,12 +321,9 @@ fn finish<'a>(alloc: Global, reader: Reader<'a>) -> Result<Option<Subformula<'a>
         below,
     } = reader;
     if !below.is_empty() {
-        return Ok(None);
+        return Ok(whole_of(place));
     }
-    match last_unit(alloc, place)? {
-        Some(unit) => Ok(Some(layer.total(alloc, unit)?)),
-        None => Ok(None),
-    }
+    end_at(alloc, place, layer)
 }
 
 /// What the machine reads.
@@ -314,7 +354,8 @@ fn read_all<'b, 'a>(alloc: Global, tokens: &'b [Token<'a>]) -> Result<Condition<
 /// The condition that the tokens are, all of them, in herd7's format: units joined by `/\`, and these joined by `\/`; a
 /// unit is `~` or the word `not` and a unit, a condition in parentheses, `true`, `false`, or an atom: a target, `=` or
 /// `==` and a value, or `<>` or `!=`, which denies it. No word is reserved: where one of these comes after `not`, `true`
-/// or `false`, the word names a location. Stops at the first token with which the tokens so far begin no condition.
+/// or `false`, the word names a location. A `;` may stand behind it. Stops at the first token with which the tokens so
+/// far begin no condition.
 /// Linear in the tokens; at most 56 bytes of memory an open parenthesis, a few words an atom, and no recursion.
 pub fn read_condition<'b, 'a>(
     alloc: Global,

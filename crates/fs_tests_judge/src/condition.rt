@@ -128,6 +128,10 @@ fn reads_conditions(rt: HostRuntime) -> Result<(), Fail> {
         ("not<>1", "~ not=1 ; not"),
         ("not not!=1 \\/ true==1", "| ~ ~ not=1 true=1 ; not true"),
         ("false<>true", "~ false=&true ; false"),
+        ("x=1 /\\ y=2 ;", "& x=1 y=2 ; x y"),
+        ("~(x=1);", "~ x=1 ; x"),
+        ("true;", "T ;"),
+        ("false=1;", "false=1 ; false"),
     ] {
         let found = shown(rt.alloc(), text)?;
         assert_eq!(rt; found.as_str(), wanted, "in {text}");
@@ -158,7 +162,12 @@ fn stops_at_the_first_bad_token(rt: HostRuntime) -> Result<(), Fail> {
         ("x!==1", "2 left"),
         ("true!1", "1 left"),
         ("x=1 /\\ \\/ y=1", "4 left"),
-        ("x=1 ; y=1", "4 left"),
+        ("x=1 ; y=1", "3 left"),
+        ("x=1 ;;", "1 left"),
+        ("(x=1;)", "2 left"),
+        ("x=;", "1 left"),
+        ("not;", "1 left"),
+        (";", "1 left"),
         ("x=$1", "2 left"),
     ] {
         let found = shown(rt.alloc(), text)?;
