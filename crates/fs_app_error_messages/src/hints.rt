@@ -173,10 +173,10 @@ fn condition_words(spot: Spot<'_, '_>) -> &'static str {
         return "nothing may stand behind the `;` that ends the condition";
     }
     if is_mark(spot.ahead(1), Mark::Greater) {
-        return "no implication is read: write `~A \\/ B` for `A => B`";
+        return "an implication is written `A => B`";
     }
     if is_foreign(found) || is_mark(spot.back(1), Mark::Less) || is_mark(spot.back(1), Mark::Bang) {
-        return "of comparisons `=`, `==`, `<>` and `!=` are read, and of connectives `/\\`, `\\/`, `~` and `not`";
+        return "of comparisons `=`, `==`, `<>` and `!=` are read, and of connectives `/\\`, `\\/`, `=>`, `~` and `not`";
     }
     match found {
         Kind::Sign(Mark::Colon) => colon_words(spot),

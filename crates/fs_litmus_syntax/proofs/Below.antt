@@ -2,11 +2,11 @@
 use Rattle.std.proofs.Common.{◌≡◌, ℕ, ◌+◌, ◌<◌, ◌≤◌, List, [], ◌∷◌, ◌++◌, length, Option, Some, None, refl, ap, arith}
 use Rattle.fs_litmus_tokens.specs.Tokens.{Tok, Word, Sign}
 use Rattle.fs_litmus_tokens.specs.Sections.{Move, Go, Finish, Bad}
-use Rattle.fs_litmus_tokens.specs.Values.{Target, Value}
+use Rattle.fs_litmus_tokens.specs.Values.{Location}
 use Rattle.fs_litmus_tokens.specs.declared.word.Class.TheVariants as class
-use Rattle.fs_litmus_tokens.specs.declared.token.Mark.TheVariants.{Equals, Less, Bang, OpenBracket, Tilde, OpenParen, CloseParen, And, Or, Semicolon}
+use Rattle.fs_litmus_tokens.specs.declared.token.Mark.TheVariants.{Equals, Less, Greater, Bang, OpenBracket, Tilde, OpenParen, CloseParen, And, Or, Semicolon}
 use Rattle.fs_litmus_syntax.specs.declared.layer.Layer.{Layer}
-use Rattle.fs_litmus_syntax.specs.Machine.{AtomPlace, Found, Frame, Place, Begin, AfterNot, AfterTrue, AfterFalse, InAtom, AfterUnit, Whole, State, put_off, with_denial, next_atom, next_begin, completed, next_after, place_after, placed, next_in, next, whole_of, end_in}
+use Rattle.fs_litmus_syntax.specs.Machine.{AtomPlace, AfterEquals, Found, Frame, Place, Begin, AfterNot, AfterWord, AfterWordEquals, InAtom, AfterUnit, Implying, Whole, State, put_off, with_denial, next_atom, next_begin, completed, next_after, said, place_after, placed, next_in, next, whole_of, end_in}
 use Rattle.fs_litmus_syntax.specs.Limited.{Bounded, limited}
 use Rattle.fs_litmus_syntax.specs.Views.{layer_of, below_of}
 
@@ -60,6 +60,7 @@ small_begin n f fs _ h hs = tt
 small_after : (n : ℕ) (u : Bounded) (f : Frame Bounded) (fs : List (Frame Bounded)) (t : Tok) → f.denials ≤ n → AllSmall n fs → SmallOf (n + 1) (next_after limited u f fs t)
 small_after n u f fs (Sign And) h hs = (omega arith, all_small_more n fs hs)
 small_after n u f fs (Sign Or) h hs = (omega arith, all_small_more n fs hs)
+small_after n u f fs (Sign Equals) h hs = (omega arith, all_small_more n fs hs)
 small_after n u f [] (Sign CloseParen) h hs = tt
 small_after n u f (g ∷ fs) (Sign CloseParen) h hs = (omega (arith, hs.0), all_small_more n fs hs.1)
 small_after n u f [] (Sign Semicolon) h hs = (omega arith, tt)
@@ -77,16 +78,16 @@ small_next_in n (AfterNot w) f fs (Sign Equals) h hs = (omega arith, all_small_m
 small_next_in n (AfterNot w) f fs (Sign Less) h hs = (omega arith, all_small_more n fs hs)
 small_next_in n (AfterNot w) f fs (Sign Bang) h hs = (omega arith, all_small_more n fs hs)
 small_next_in n (AfterNot w) f fs t h hs = small_begin n (with_denial f) fs t (omega arith) hs
-small_next_in n (AfterTrue w) f fs (Sign Equals) h hs = (omega arith, all_small_more n fs hs)
-small_next_in n (AfterTrue w) f fs (Sign Less) h hs = (omega arith, all_small_more n fs hs)
-small_next_in n (AfterTrue w) f fs (Sign Bang) h hs = (omega arith, all_small_more n fs hs)
-small_next_in n (AfterTrue w) f fs t h hs = small_after n limited.truth f fs t (omega arith) hs
-small_next_in n (AfterFalse w) f fs (Sign Equals) h hs = (omega arith, all_small_more n fs hs)
-small_next_in n (AfterFalse w) f fs (Sign Less) h hs = (omega arith, all_small_more n fs hs)
-small_next_in n (AfterFalse w) f fs (Sign Bang) h hs = (omega arith, all_small_more n fs hs)
-small_next_in n (AfterFalse w) f fs t h hs = small_after n limited.falsity f fs t (omega arith) hs
+small_next_in n (AfterWord b w) f fs (Sign Equals) h hs = (omega arith, all_small_more n fs hs)
+small_next_in n (AfterWord b w) f fs (Sign Less) h hs = (omega arith, all_small_more n fs hs)
+small_next_in n (AfterWord b w) f fs (Sign Bang) h hs = (omega arith, all_small_more n fs hs)
+small_next_in n (AfterWord b w) f fs t h hs = small_after n (said limited b) f fs t (omega arith) hs
+small_next_in n (AfterWordEquals b w) f fs (Sign Greater) h hs = (omega arith, all_small_more n fs hs)
+small_next_in n (AfterWordEquals b w) f fs t h hs = small_atom n (next_atom (AfterEquals (Location w)) t) f fs (omega arith) hs
 small_next_in n (InAtom p) f fs t h hs = small_atom n (next_atom p t) f fs (omega arith) hs
 small_next_in n (AfterUnit u) f fs t h hs = small_after n u f fs t (omega arith) hs
+small_next_in n (Implying u) f fs (Sign Greater) h hs = (omega arith, all_small_more n fs hs)
+small_next_in n (Implying u) f fs t h hs = tt
 small_next_in n (Whole u) f fs t h hs = tt
 
 pub small_next : (n : ℕ) (s : State Bounded) (t : Tok) → Small n s → SmallOf (n + 1) (next limited s t)
