@@ -210,7 +210,7 @@ class Test:
 TOKEN = re.compile(r'(\(\*|\*\))|([A-Za-z0-9_.]+|/\\|\\/|[^ \t\r])')
 """A sign of a comment; or a token, or a line end."""
 SIGNS = {*'{};|,:=()[]~-*&<>!', '/\\', '\\/'}
-CONNECTIVES = {'/\\': 'and', '\\/': 'or'}
+CONNECTIVES = {'/\\': 'and', '\\/': 'or', '=>': 'or'}
 FAULTS = {3: 'Syntax', 4: 'UnknownInstr', 5: 'BadAnnotation', 6: 'BadLabel', 7: 'BadInit'}
 
 
@@ -273,13 +273,18 @@ def instruction_of(name, words):
 
 
 def joined(stack, right, signs):
-    """The condition at the right of these signs, once those are off the stack. A condition has its tree and its depth;
-    a denial and an open parenthesis have nothing at their left."""
+    """The condition at the right of these signs, once those are off the stack. A condition has its tree and its depths,
+    as grouped and as written; a denial and an open parenthesis have nothing at their left."""
     while stack and stack[-1][0] in signs:
-        sign, tree, depth = stack.pop()
-        tree = ('not', right[0]) if sign == '~' else (CONNECTIVES[sign], tree, right[0])
-        right = tree, 1 + max(depth, right[1])
+        sign, tree, grouped, written = stack.pop()
+        joint = CONNECTIVES.get(sign), tree, right[0]
+        right = denied(*right) if sign == '~' else (joint, 1 + max(grouped, right[1]), max(written, right[2]))
     return right
+
+
+def denied(tree, grouped, written):
+    """The denial of a condition."""
+    return ('not', tree), grouped + 1, written + 1
 
 
 class TestReader:
@@ -407,40 +412,45 @@ class TestReader:
 
     def is_said(self, *words):
         """Does one of these words stand here, and name no location?"""
-        return self.peek() in words and self.peek(1) not in ('=', '<', '!')
+        is_implying = self.peek() != 'not' and (self.peek(1), self.peek(2)) == ('=', '>')
+        return self.peek() in words and (is_implying or self.peek(1) not in ('=', '<', '!'))
 
     def atom(self):
-        """An atom, `true` or `false`."""
+        """An atom, `true` or `false`, with its depths."""
         if self.is_said('true', 'false'):
-            return 'constant', self.next(is_word) == 'true'
+            return ('constant', self.next(is_word) == 'true'), 0, 0
         target, is_equal = self.target(), self.sign()
         value, is_register = self.value(), type(target) is tuple
         is_there = not is_register or target[0] < len(self.test.registers) and target[1] is not None
         self.has_bad_atom |= value is None or not is_there
         found = 'register' if is_register else 'word', target, value
-        return found if is_equal else ('not', found)
+        return (found, 0, 0) if is_equal else denied(found, 0, 0)
 
     def condition(self):
         """The condition, and its depth, both as written and as grouped. The stack has what is open: parentheses,
         denials, and connectives with what they join to the left."""
-        stack, deepest = [], 0
+        stack = []
         while True:
             while self.peek() in ('(', '~') or self.is_said('not'):
-                stack.append(('(' if self.expect('(', '~', 'not') == '(' else '~', None, 0))
-            atom = self.atom()
-            is_denied = atom[0] == 'not'
-            deepest = max(deepest, sum(sign in ('(', '~') for sign, *_ in stack) + is_denied)
-            found = joined(stack, (atom, int(is_denied)), ('~', '/\\'))
+                stack.append(('(' if self.expect('(', '~', 'not') == '(' else '~', None, 0, 0))
+            found = joined(stack, self.atom(), ('~', '/\\'))
             while self.peek() == ')' and any(sign == '(' for sign, *_ in stack):
                 self.expect(')')
-                found = joined(stack, found, ('\\/',))
+                tree, grouped, written = joined(stack, found, ('\\/', '=>'))
                 stack.pop()
-                found = joined(stack, found, ('~', '/\\'))
-            if not self.peek() and not any(sign == '(' for sign, *_ in stack):
-                tree, depth = joined(stack, found, ('\\/',))
-                return tree, max(deepest, depth)
-            sign = self.expect('/\\', '\\/')
-            stack.append((sign, *(joined(stack, found, ('\\/',)) if sign == '\\/' else found)))
+                found = joined(stack, (tree, grouped, written + 1), ('~', '/\\'))
+            if not any(sign == '(' for sign, *_ in stack) and (self.accept(';') or not self.peek()):
+                if self.peek():
+                    self.expect()                       # nothing stands behind the condition
+                tree, *depths = joined(stack, found, ('\\/', '=>'))
+                return tree, max(depths)
+            sign = self.expect('/\\', '\\/', '=')
+            if sign != '/\\':
+                found = joined(stack, found, ('\\/',))
+            if sign == '=':
+                sign += self.expect('>')
+                found = joined(stack, denied(*found), ('=>',))
+            stack.append((sign, *found))
 
     def read(self):
         test, entries = self.test, self.entries()

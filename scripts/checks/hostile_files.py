@@ -159,7 +159,7 @@ def tokens_changed():
 
 
 ENTRIES, CELLS, ATOMS = [(words(name), words(f"odd {name}")) for name in ("entries", "cells", "atoms")]
-CONNECTIVES = ["/\\", "\\/"]
+CONNECTIVES = ["/\\", "\\/", "=>"]
 
 
 def picked(chance, parts, oddness):
@@ -194,7 +194,8 @@ def composed(chance):
     lines += chance.choice(([], [], ["locations [x; 0:x5 ~(]"]))
     joined = chance.choice(([],) * 10 + (["x=0"] * chance.randrange(63, 67), [f"n{name}=0" for name in range(8)]))
     condition = chance.choice((" /\\ ", " \\/ ")).join(joined + [condition_of(chance, oddness, 4)])
-    lines.append(f"{chance.choice(('exists', '~exists', '~ exists', 'forall'))} {condition}")
+    end = chance.choice(("", "", "", ";", " ;"))
+    lines.append(f"{chance.choice(('exists', '~exists', '~ exists', 'forall'))} {condition}{end}")
     return chance.choice(("\n", "\n", "\r\n", "\n\n")).join(lines) + "\n"
 
 

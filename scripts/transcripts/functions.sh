@@ -14,6 +14,15 @@ cells() { for it; do cell "$it"; done; }
 # The same of branches to the label L, which stands behind each.
 branches() { for it; do cell "$it ; L:"; done; }
 
+# How a condition with its quantifier is printed; a test that is printed is printed again as it is.
+conditions() {
+    for it; do
+        rvfence place <(printf 'RISCV T\n{ }\nP0 ;\n%s\n' "$it") >$own/printed
+        tail -n 1 $own/printed
+        rvfence place $own/printed | cmp - $own/printed
+    done
+}
+
 # A witness of these choices and this order.
 witness() { echo "{\"choices\":$1,\"order\":$2}"; }
 

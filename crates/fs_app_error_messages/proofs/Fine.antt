@@ -8,7 +8,7 @@ use Rattle.std.proofs.lemmas.Slice.Eq.{bytes_eq-Decides}
 use Rattle.fs_kinds.specs.declared.fault.Fault.TheVariants.{BadCondition}
 use Rattle.fs_litmus_tokens.specs.Tokens.{Lined}
 use Rattle.fs_litmus_tokens.specs.Values.{Target, Register, Location, Value, Number, Address, IsTarget, register, location, bracketed, IsValue, number as digits, minus, address}
-use Rattle.fs_litmus_syntax.specs.Grammar.{Syntax, IsEqual, once, twice, IsUnequal, less_greater, bang_equals, IsUnit, atom, other, truth, falsity, tilde, denial, group, IsConjunction, unit, both, IsDisjunction, conjunction, either}
+use Rattle.fs_litmus_syntax.specs.Grammar.{Syntax, IsEqual, once, twice, IsUnequal, less_greater, bang_equals, IsUnit, atom, other, truth, falsity, tilde, denial, group, IsConjunction, unit, both, IsDisjunction, conjunction, either, ArePremises, premise, another, IsImplication, disjunction, implication, IsCondition, complete}
 use Rattle.fs_litmus_syntax.specs.Meaning.{atoms_of}
 use Rattle.fs_litmus_syntax.specs.Form.{Form}
 use Rattle.fs_litmus.specs.Locations.{Names, Binding, with_name, with_target, with_value, declared}
@@ -85,7 +85,7 @@ module _ (columns : ℕ) where
     unit_fine falsity good = (tt, past_one _ _ refl good)
     unit_fine (tilde x) good = unit_fine x (past_one _ _ refl good)
     unit_fine (denial x) good = unit_fine x (past_one _ _ refl good)
-    unit_fine (group x) good = let k = disjunction_fine x (past_one _ _ refl good) in (k.0, past_one _ _ refl k.1)
+    unit_fine (group x) good = let k = implication_fine x (past_one _ _ refl good) in (k.0, past_one _ _ refl k.1)
 
     conjunction_fine : {ts rest : List Lined} {s : Syntax} → IsConjunction ts s rest → Good columns ts → AreFine (atoms_of s) × Good columns rest
     conjunction_fine (unit x) good = unit_fine x good
@@ -100,6 +100,23 @@ module _ (columns : ℕ) where
         let k = disjunction_fine x good in
         let l = conjunction_fine y (past_one _ _ refl k.1) in
         (fine_append (atoms_of a) (atoms_of b) k.0 l.0, l.1)
+
+    premises_fine : {ts rest : List Lined} {s : Syntax} → ArePremises ts s rest → Good columns ts → AreFine (atoms_of s) × Good columns rest
+    premises_fine (premise x) good = let k = disjunction_fine x good in (k.0, past_one _ _ refl (past_one _ _ refl k.1))
+    premises_fine (another {p = p} {a = a} x y) good =
+        let k = premises_fine x good in
+        let l = disjunction_fine y k.1 in
+        (fine_append (atoms_of p) (atoms_of a) k.0 l.0, past_one _ _ refl (past_one _ _ refl l.1))
+
+    implication_fine : {ts rest : List Lined} {s : Syntax} → IsImplication ts s rest → Good columns ts → AreFine (atoms_of s) × Good columns rest
+    implication_fine (disjunction x) good = disjunction_fine x good
+    implication_fine (implication {p = p} {s = s} x y) good =
+        let k = premises_fine x good in
+        let l = disjunction_fine y k.1 in
+        (fine_append (atoms_of p) (atoms_of s) k.0 l.0, l.1)
+
+  condition_fine : {ts : List Lined} {s : Syntax} → IsCondition ts s → Good columns ts → AreFine (atoms_of s)
+  condition_fine (complete x end) good = (implication_fine x good).0
 
 -- ---- what the condition names is declared
 
@@ -185,7 +202,7 @@ there_all columns names (b ∷ bs) h k =
 no_atom_fault : (bytes : List ℕ) (form : Form) (s : Syntax) (h : HasForm bytes form s) → Good form.columns h.rest → ¬ IsFormFault form s BadCondition
 no_atom_fault bytes form s h good (code c) = absurd (omega (arith, code_low c))
 no_atom_fault bytes form s h good (of_atom e) =
-    let fine = (disjunction_fine form.columns h.is_condition good).0 in
+    let fine = condition_fine form.columns h.is_condition good in
     let there = there_all form.columns _ (atoms_of s) fine (all_have (declared [] (entry_bindings form.entries)) (atoms_of s)) in
     absurd (cc)
 

@@ -11,6 +11,7 @@ use crate::message::message;
 use crate::point::{Point, point_of};
 use crate::slices::from;
 use crate::title::body_start;
+use crate::walk::{begins, is_blank};
 use fs_kinds::{Fault, Limit};
 use fs_litmus::read_test;
 use fs_litmus_tokens::tokens;
@@ -51,6 +52,18 @@ fn whole_words(fault: Fault) -> &'static str {
             "it can't be opened or read, or is longer than a test may be, 1,048,576 bytes",
         Fault::Memory => "memory ran out",
         _ => "no more is known",
+    }
+}
+
+/// What is said of a first line that is no title.
+fn title_words(bytes: &[u8]) -> &'static str {
+    if begins(b'C', bytes) && begins(b' ', from(bytes, 1)) {
+        return "a C test: `scripts/from-c` prints it as a RISC-V test";
+    }
+    match bytes.first() {
+        Some(byte) if *byte == b'(' || *byte == b'\n' || is_blank(*byte) =>
+            "the first line must be `RISCV`, a blank and a name: comments and blanks stand below it",
+        _ => "the first line must be `RISCV`, a blank and a name",
     }
 }
 
@@ -96,7 +109,7 @@ pub(crate) fn hint_of(
 ) -> Result<&'static str, AllocError> {
     match fault {
         Fault::BadUtf8 => Ok("this byte isn't UTF-8"),
-        Fault::NotRiscv => Ok("the first line must be `RISCV`, a blank and a name"),
+        Fault::NotRiscv => Ok(title_words(bytes)),
         Fault::Syntax { .. }
         | Fault::UnknownInstr { .. }
         | Fault::BadAnnotation { .. }

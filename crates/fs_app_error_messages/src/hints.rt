@@ -169,15 +169,19 @@ fn condition_words(spot: Spot<'_, '_>) -> &'static str {
     let Some(found) = spot.ahead(0) else {
         return "the file ends within its condition";
     };
+    if is_mark(spot.back(1), Mark::Semicolon) {
+        return "nothing may stand behind the `;` that ends the condition";
+    }
     if is_mark(spot.ahead(1), Mark::Greater) {
-        return "no implication is read: write `~A \\/ B` for `A => B`";
+        return "an implication is written `A => B`";
     }
     if is_foreign(found) || is_mark(spot.back(1), Mark::Less) || is_mark(spot.back(1), Mark::Bang) {
-        return "of comparisons `=`, `==`, `<>` and `!=` are read, and of connectives `/\\`, `\\/`, `~` and `not`";
+        return "of comparisons `=`, `==`, `<>` and `!=` are read, and of connectives `/\\`, `\\/`, `=>`, `~` and `not`";
     }
     match found {
         Kind::Sign(Mark::Colon) => colon_words(spot),
-        Kind::Sign(Mark::Semicolon) => "nothing may stand behind the condition",
+        Kind::Sign(Mark::Semicolon) =>
+            "a `;` ends the condition: an atom, or a `)`, is missing before it",
         Kind::Word(_, _) =>
             "expected `/\\`, `\\/`, or the end of the condition or of its parentheses",
         _ => "expected an atom as `0:x5=1` or `x=1`",

@@ -14,7 +14,7 @@ use Rattle.fs_litmus_syntax.specs.Header.{IsColumns, last, more}
 use Rattle.fs_litmus_syntax.specs.Body.{Cell, IsCell, nothing, plain, IsRow, one, cells, IsSkipped, closed, skipped, IsQuantifier, exists, not_exists, forall, IsEnding, bare as unnamed, after_locations, Body, IsBody, ending, row}
 use Rattle.fs_litmus_syntax.specs.declared.rows.Quantifier.{Quantifier}
 use Rattle.fs_litmus_syntax.specs.Form.{Form, IsForm, form}
-use Rattle.fs_litmus_syntax.specs.Grammar.{Syntax, IsEqual, once, twice, IsUnequal, less_greater, bang_equals, IsUnit, atom, other, truth, falsity, tilde, denial, group, IsConjunction, unit, both, IsDisjunction, conjunction, either, IsCondition}
+use Rattle.fs_litmus_syntax.specs.Grammar.{Syntax, IsEqual, once, twice, IsUnequal, less_greater, bang_equals, IsUnit, atom, other, truth, falsity, tilde, denial, group, IsConjunction, unit, both, IsDisjunction, conjunction, either, ArePremises, premise, another, IsImplication, disjunction, implication, IsCondition, complete}
 use Rattle.fs_litmus_syntax.specs.Meaning.{atoms_of}
 use Rattle.fs_model.specs.Test.{is_name}
 use Rattle.fs_litmus.specs.Locations.{Names, Binding, with_name, with_target, with_value, declared}
@@ -142,7 +142,7 @@ mutual
   unit_named falsity h = (tt, h.1)
   unit_named (tilde x) h = unit_named x h.1
   unit_named (denial x) h = unit_named x h.1
-  unit_named (group x) h = let k = disjunction_named x h.1 in (k.0, k.1.1)
+  unit_named (group x) h = let k = implication_named x h.1 in (k.0, k.1.1)
 
   conjunction_named : {ts rest : List Lined} {s : Syntax} → IsConjunction ts s rest → AreClassed ts → AreNamed (atoms_of s) × AreClassed rest
   conjunction_named (unit x) h = unit_named x h
@@ -158,8 +158,22 @@ mutual
       let l = conjunction_named y k.1.1 in
       (named_append (atoms_of a) (atoms_of b) k.0 l.0, l.1)
 
+  premises_named : {ts rest : List Lined} {s : Syntax} → ArePremises ts s rest → AreClassed ts → AreNamed (atoms_of s) × AreClassed rest
+  premises_named (premise x) h = let k = disjunction_named x h in (k.0, k.1.1.1)
+  premises_named (another {p = p} {a = a} x y) h =
+      let k = premises_named x h in
+      let l = disjunction_named y k.1 in
+      (named_append (atoms_of p) (atoms_of a) k.0 l.0, l.1.1.1)
+
+  implication_named : {ts rest : List Lined} {s : Syntax} → IsImplication ts s rest → AreClassed ts → AreNamed (atoms_of s) × AreClassed rest
+  implication_named (disjunction x) h = disjunction_named x h
+  implication_named (implication {p = p} {s = s} x y) h =
+      let k = premises_named x h in
+      let l = disjunction_named y k.1 in
+      (named_append (atoms_of p) (atoms_of s) k.0 l.0, l.1)
+
 pub condition_named : {ts : List Lined} {s : Syntax} → IsCondition ts s → AreClassed ts → AreNamed (atoms_of s)
-condition_named x h = (disjunction_named x h).0
+condition_named (complete x end) h = (implication_named x h).0
 
 -- ---- what is declared
 

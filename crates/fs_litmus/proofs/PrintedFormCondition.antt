@@ -4,7 +4,7 @@ use Rattle.fs_litmus_tokens.specs.Tokens.{Tok, Sign, Lined, word}
 use Rattle.fs_litmus_tokens.specs.Words.{class_of, keyword_of}
 use Rattle.fs_litmus_tokens.specs.declared.token.Mark.TheVariants as mark
 use Rattle.fs_litmus_syntax.specs.Grammar as syntax
-use Rattle.fs_litmus_syntax.specs.Grammar.{Syntax, IsUnit, IsConjunction, IsDisjunction, IsCondition, once, atom, truth, falsity, tilde, group, unit, both, conjunction, either}
+use Rattle.fs_litmus_syntax.specs.Grammar.{Syntax, IsUnit, IsConjunction, IsDisjunction, disjunction, nothing, IsCondition, complete, once, atom, truth, falsity, tilde, group, unit, both, conjunction, either}
 use Rattle.fs_model.specs.Condition as condition
 use Rattle.fs_model.specs.Condition.{Condition}
 use Rattle.fs_model.specs.declared.test.Location as locations
@@ -46,7 +46,7 @@ grouped : {ts : List Lined} (s : Syntax) (toks : List Tok) → ((more : List Lin
 grouped s toks of (next {ts = ts} are) =
     let inner = of ts (Sign mark.CloseParen ∷ toks) (regrouped (syntax_toks s) (Sign mark.CloseParen ∷ []) toks are) in
     let end = first inner.are in
-    record { rest = end.rest; is = group (subst (λ m. IsDisjunction ts s m) end.split inner.is); are = end.are }
+    record { rest = end.rest; is = group (disjunction (subst (λ m. IsDisjunction ts s m) end.split inner.is)); are = end.are }
 
 -- its tokens are one unit, whatever follows them
 abbrev Units : Syntax → Type 0
@@ -77,7 +77,7 @@ units ls (condition.Both c d) fits ts toks are = grouped _ toks (λ more m inner
 units ls (condition.Either c d) fits ts toks are = grouped _ toks (λ more m inner. either_read (syntax_of ls c) (syntax_of ls d) (units ls c fits.0) (units ls d fits.1) more m inner) are
 
 ended : {ts rest : List Lined} {s : Syntax} → IsDisjunction ts s rest → Are rest [] → IsCondition ts s
-ended is none = is
+ended is none = complete (disjunction is) nothing
 
 pub condition_read : {ts : List Lined} (ls : List locations.Location) (c : Condition) → FitsSyntax (syntax_of ls c) → Are ts (syntax_toks (syntax_of ls c)) → IsCondition ts (syntax_of ls c)
 condition_read {ts = ts} ls c fits are =

@@ -12,7 +12,7 @@ use Rattle.fs_litmus_tokens.specs.declared.values.Stop.TheVariants.{Memory, At}
 use Rattle.fs_litmus_tokens.proofs.Sequences.{stops_first, stops_later}
 use Rattle.fs_litmus_syntax.specs.Form.{Form, IsForm}
 use Rattle.fs_litmus_syntax.specs.Reading.{Refuses}
-use Rattle.fs_litmus_syntax.specs.Grammar.{Syntax, IsCondition, True, conjunction, unit, truth}
+use Rattle.fs_litmus_syntax.specs.Grammar.{Syntax, nothing, IsCondition, complete, True, disjunction, conjunction, unit, truth}
 use Rattle.fs_litmus_syntax.specs.Answer.{Means, StopsAt}
 use Rattle.fs_litmus_syntax.specs.declared.condition.Condition as conditions
 use Rattle.fs_model.specs.declared.test.Test.{Test}
@@ -25,7 +25,7 @@ use Rattle.fs_litmus.proofs.FrontFaults.{tokens_once, first_broken, first_meanin
 
 -- some condition stands after each form
 condition_begins : (f : Form) → BeginsText IsCondition []
-condition_begins f = ((Word class.TrueWord [], 0) ∷ [], True, conjunction (unit truth))
+condition_begins f = ((Word class.TrueWord [], 0) ∷ [], True, complete (disjunction (conjunction (unit truth))) nothing)
 
 -- the sections stop
 pub form_stops : (ts : List Token) (e : Stop) → Refuses IsForm ts e → IsTextStop (views ts) e

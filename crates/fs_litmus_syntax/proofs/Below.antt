@@ -1,12 +1,12 @@
 -- The list of layers, of which the last is the innermost, and how many denials are in them.
-use Rattle.std.proofs.Common.{◌≡◌, ℕ, ◌+◌, ◌<◌, ◌≤◌, List, [], ◌∷◌, ◌++◌, length, Option, Some, None, refl, arith}
+use Rattle.std.proofs.Common.{◌≡◌, ℕ, ◌+◌, ◌<◌, ◌≤◌, List, [], ◌∷◌, ◌++◌, length, Option, Some, None, refl, ap, arith}
 use Rattle.fs_litmus_tokens.specs.Tokens.{Tok, Word, Sign}
 use Rattle.fs_litmus_tokens.specs.Sections.{Move, Go, Finish, Bad}
-use Rattle.fs_litmus_tokens.specs.Values.{Target, Value}
+use Rattle.fs_litmus_tokens.specs.Values.{Location}
 use Rattle.fs_litmus_tokens.specs.declared.word.Class.TheVariants as class
-use Rattle.fs_litmus_tokens.specs.declared.token.Mark.TheVariants.{Equals, Less, Bang, OpenBracket, Tilde, OpenParen, CloseParen, And, Or}
+use Rattle.fs_litmus_tokens.specs.declared.token.Mark.TheVariants.{Equals, Less, Greater, Bang, OpenBracket, Tilde, OpenParen, CloseParen, And, Or, Semicolon}
 use Rattle.fs_litmus_syntax.specs.declared.layer.Layer.{Layer}
-use Rattle.fs_litmus_syntax.specs.Machine.{AtomPlace, Found, Frame, Place, Begin, AfterNot, AfterTrue, AfterFalse, InAtom, AfterUnit, State, put_off, with_denial, next_atom, next_begin, next_after, place_after, placed, next_in, next, end_in}
+use Rattle.fs_litmus_syntax.specs.Machine.{AtomPlace, AfterEquals, Found, Frame, Place, Begin, AfterNot, AfterWord, AfterWordEquals, InAtom, AfterUnit, Implying, Whole, State, put_off, with_denial, next_atom, next_begin, completed, next_after, said, place_after, placed, next_in, next, whole_of, end_in}
 use Rattle.fs_litmus_syntax.specs.Limited.{Bounded, limited}
 use Rattle.fs_litmus_syntax.specs.Views.{layer_of, below_of}
 
@@ -14,13 +14,23 @@ pub below_of_push : (ls : List Layer) (l : Layer) (fs : List (Frame Bounded)) �
 below_of_push [] l fs = refl
 below_of_push (m ∷ ls) l fs = below_of_push ls l (layer_of m ∷ fs)
 
-not_ended_below : (p : Place Bounded) (g f : Frame Bounded) (ls : List Layer) (fs : List (Frame Bounded)) → end_in limited p g (below_of ls (f ∷ fs)) ≡ None
-not_ended_below p g f [] fs = refl
-not_ended_below p g f (l ∷ ls) fs = not_ended_below p g (layer_of l) ls (f ∷ fs)
+-- a frame is below
+abbrev IsOpen : List (Frame Bounded) → Type 0
+IsOpen fs = (g : Frame Bounded) × (gs : List (Frame Bounded)) × (fs ≡ g ∷ gs)
 
-pub not_ended : (p : Place Bounded) (g : Frame Bounded) (ls : List Layer) → 0 < length ls → end_in limited p g (below_of ls []) ≡ None
-not_ended p g [] h = absurd (omega arith)
-not_ended p g (l ∷ ls) h = not_ended_below p g (layer_of l) ls []
+open_over : (ls : List Layer) (f : Frame Bounded) (fs : List (Frame Bounded)) → IsOpen (below_of ls (f ∷ fs))
+open_over [] f fs = (f, fs, refl)
+open_over (l ∷ ls) f fs = open_over ls (layer_of l) (f ∷ fs)
+
+open_below : (ls : List Layer) → 0 < length ls → IsOpen (below_of ls [])
+open_below [] h = absurd (omega arith)
+open_below (l ∷ ls) h = open_over ls (layer_of l) []
+
+pub not_ended : (p : Place Bounded) (g : Frame Bounded) (ls : List Layer) → 0 < length ls → end_in limited p g (below_of ls []) ≡ whole_of p
+not_ended p g ls h = ap (end_in limited p g) (open_below ls h).2
+
+pub not_completed : (u : Bounded) (g : Frame Bounded) (ls : List Layer) → 0 < length ls → completed limited g (below_of ls []) u ≡ None
+not_completed u g ls h = ap (λ fs. completed limited g fs u) (open_below ls h).2
 
 -- each layer has at most n denials, with one that is put off
 abbrev pub AllSmall : ℕ → List (Frame Bounded) → Type 0
@@ -50,8 +60,11 @@ small_begin n f fs _ h hs = tt
 small_after : (n : ℕ) (u : Bounded) (f : Frame Bounded) (fs : List (Frame Bounded)) (t : Tok) → f.denials ≤ n → AllSmall n fs → SmallOf (n + 1) (next_after limited u f fs t)
 small_after n u f fs (Sign And) h hs = (omega arith, all_small_more n fs hs)
 small_after n u f fs (Sign Or) h hs = (omega arith, all_small_more n fs hs)
+small_after n u f fs (Sign Equals) h hs = (omega arith, all_small_more n fs hs)
 small_after n u f [] (Sign CloseParen) h hs = tt
 small_after n u f (g ∷ fs) (Sign CloseParen) h hs = (omega (arith, hs.0), all_small_more n fs hs.1)
+small_after n u f [] (Sign Semicolon) h hs = (omega arith, tt)
+small_after n u f (g ∷ fs) (Sign Semicolon) h hs = tt
 small_after n u f fs _ h hs = tt
 
 small_atom : (n : ℕ) (m : Move AtomPlace Found) (f : Frame Bounded) (fs : List (Frame Bounded)) → f.denials ≤ n → AllSmall n fs → SmallOf (n + 1) (placed (place_after limited m) f fs)
@@ -65,16 +78,17 @@ small_next_in n (AfterNot w) f fs (Sign Equals) h hs = (omega arith, all_small_m
 small_next_in n (AfterNot w) f fs (Sign Less) h hs = (omega arith, all_small_more n fs hs)
 small_next_in n (AfterNot w) f fs (Sign Bang) h hs = (omega arith, all_small_more n fs hs)
 small_next_in n (AfterNot w) f fs t h hs = small_begin n (with_denial f) fs t (omega arith) hs
-small_next_in n (AfterTrue w) f fs (Sign Equals) h hs = (omega arith, all_small_more n fs hs)
-small_next_in n (AfterTrue w) f fs (Sign Less) h hs = (omega arith, all_small_more n fs hs)
-small_next_in n (AfterTrue w) f fs (Sign Bang) h hs = (omega arith, all_small_more n fs hs)
-small_next_in n (AfterTrue w) f fs t h hs = small_after n limited.truth f fs t (omega arith) hs
-small_next_in n (AfterFalse w) f fs (Sign Equals) h hs = (omega arith, all_small_more n fs hs)
-small_next_in n (AfterFalse w) f fs (Sign Less) h hs = (omega arith, all_small_more n fs hs)
-small_next_in n (AfterFalse w) f fs (Sign Bang) h hs = (omega arith, all_small_more n fs hs)
-small_next_in n (AfterFalse w) f fs t h hs = small_after n limited.falsity f fs t (omega arith) hs
+small_next_in n (AfterWord b w) f fs (Sign Equals) h hs = (omega arith, all_small_more n fs hs)
+small_next_in n (AfterWord b w) f fs (Sign Less) h hs = (omega arith, all_small_more n fs hs)
+small_next_in n (AfterWord b w) f fs (Sign Bang) h hs = (omega arith, all_small_more n fs hs)
+small_next_in n (AfterWord b w) f fs t h hs = small_after n (said limited b) f fs t (omega arith) hs
+small_next_in n (AfterWordEquals b w) f fs (Sign Greater) h hs = (omega arith, all_small_more n fs hs)
+small_next_in n (AfterWordEquals b w) f fs t h hs = small_atom n (next_atom (AfterEquals (Location w)) t) f fs (omega arith) hs
 small_next_in n (InAtom p) f fs t h hs = small_atom n (next_atom p t) f fs (omega arith) hs
 small_next_in n (AfterUnit u) f fs t h hs = small_after n u f fs t (omega arith) hs
+small_next_in n (Implying u) f fs (Sign Greater) h hs = (omega arith, all_small_more n fs hs)
+small_next_in n (Implying u) f fs t h hs = tt
+small_next_in n (Whole u) f fs t h hs = tt
 
 pub small_next : (n : ℕ) (s : State Bounded) (t : Tok) → Small n s → SmallOf (n + 1) (next limited s t)
 small_next n s t h = small_next_in n s.place s.frame s.below t h.0 h.1

@@ -1,11 +1,11 @@
 -- What the tokens to come must be, in each state of the reader of initial values.
-use Rattle.std.proofs.Common.{◌≡◌, ℕ, List, [], ◌∷◌, ◌++◌, Bool, true, false, refl, sym, ◌∙◌, append_assoc, append-nil}
+use Rattle.std.proofs.Common.{◌≡◌, ℕ, List, [], ◌∷◌, ◌++◌, true, false, refl, sym, ◌∙◌, append_assoc, append-nil}
 use Rattle.fs_litmus_tokens.specs.declared.word.Class.{Class}
 use Rattle.fs_litmus_tokens.specs.declared.word.Class.TheVariants as class
 use Rattle.fs_litmus_tokens.specs.declared.token.Mark.TheVariants.{OpenBrace, CloseBrace, Semicolon, Colon, Equals, OpenBracket, CloseBracket, Minus, Star, Ampersand}
 use Rattle.fs_litmus_tokens.specs.Words.{is_name}
 use Rattle.fs_litmus_tokens.specs.Tokens.{Tok, Lined, Word, Sign}
-use Rattle.fs_litmus_tokens.specs.Values.{Target, Register, Location, Value, Number, Address, IsTarget, register, location, bracketed, IsValue, number, minus, address}
+use Rattle.fs_litmus_tokens.specs.Values.{Target, Register, Location, Value, Number, Address, IsTarget, register, location, bracketed, number, minus, address}
 use Rattle.fs_litmus_tokens.specs.Sections.{Move, Go, Finish, Bad, scan, IsAlive, Scanned}
 use Rattle.fs_litmus_tokens.proofs.Scans.{Follows, scanned}
 use Rattle.fs_litmus_syntax.specs.Init.{Entry, unset, IsInitial, direct, reference, IsBare, bare, alone, IsEntry, untyped, typed, pointer, IsEntries, none, entry, IsEntryEnd, brace, semicolon, IsInit, block, Position, BeforeBrace, BeforeEntry, AfterStar, AfterName, AfterHart, AfterColon, AfterBracket, AfterBracketedName, AfterTarget, AfterEquals, AfterMinus, AfterAmpersand, AfterValue, State, at_entries, target_begun, next_in, next}

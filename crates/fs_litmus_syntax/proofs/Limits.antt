@@ -5,13 +5,13 @@ use Rattle.std.proofs.lemmas.Bool.Decides.{nat_tests}
 use Rattle.fs_kinds.specs.Limits.{most_depth}
 use Rattle.fs_litmus_tokens.specs.Tokens.{Tok, Lined, Word, Sign}
 use Rattle.fs_litmus_tokens.specs.Sections.{Move, Go, Finish, Bad}
-use Rattle.fs_litmus_tokens.specs.Values.{Target, Value}
+use Rattle.fs_litmus_tokens.specs.Values.{Target, Location, Value}
 use Rattle.fs_litmus_tokens.specs.declared.word.Class.TheVariants as class
-use Rattle.fs_litmus_tokens.specs.declared.token.Mark.TheVariants.{Equals, Less, Bang, OpenBracket, Tilde, OpenParen, CloseParen, And, Or}
-use Rattle.fs_litmus_syntax.specs.Grammar.{Syntax, Atom, True, False, Deny, Group, Both, Either}
+use Rattle.fs_litmus_tokens.specs.declared.token.Mark.TheVariants.{Equals, Less, Greater, Bang, OpenBracket, Tilde, OpenParen, CloseParen, And, Or, Semicolon}
+use Rattle.fs_litmus_syntax.specs.Grammar.{Syntax, Atom, Deny, Group, Both, Either}
 use Rattle.fs_litmus_syntax.specs.Meaning as meaning
 use Rattle.fs_litmus_syntax.specs.Meaning.{Condition, condition_of, written_depth, grouped_depth}
-use Rattle.fs_litmus_syntax.specs.Machine.{AtomPlace, Found, Frame, Place, Begin, AfterNot, AfterTrue, AfterFalse, InAtom, AfterUnit, State, joined, denied, with_denial, at, start, next_atom, next_begin, atoms_at, product_of, sum_of, next_after, found_unit, place_after, placed, next_in, next, end_in, end_of, ended, went, read}
+use Rattle.fs_litmus_syntax.specs.Machine.{AtomPlace, AfterEquals, Found, Frame, Place, Begin, AfterNot, AfterWord, AfterWordEquals, InAtom, AfterUnit, Implying, Whole, State, joined, denied, empty, with_denial, at, start, next_atom, next_begin, atoms_at, product_of, sum_of, total_of, with_premise, next_after, said, found_unit, place_after, placed, next_in, next, whole_of, end_in, end_of, ended, went, read}
 use Rattle.fs_litmus_syntax.specs.Limited as limits
 use Rattle.fs_litmus_syntax.specs.Limited.{Bounded, Deep, Fine, connected, in_parentheses, limited, bounded}
 use Rattle.fs_litmus_syntax.proofs.Residual.{tree}
@@ -51,15 +51,17 @@ joined_bounded f g h None u = refl
 joined_bounded f g h (Some a) u = h a u
 
 frame_map : Frame Syntax → Frame Bounded
-frame_map f = record { sum = option_map bounded f.sum; product = option_map bounded f.product; denials = f.denials }
+frame_map f = record { premises = option_map bounded f.premises; sum = option_map bounded f.sum; product = option_map bounded f.product; denials = f.denials }
 
 abbrev place_map : Place Syntax → Place Bounded
 place_map Begin = Begin
 place_map (AfterNot w) = AfterNot w
-place_map (AfterTrue w) = AfterTrue w
-place_map (AfterFalse w) = AfterFalse w
+place_map (AfterWord b w) = AfterWord b w
+place_map (AfterWordEquals b w) = AfterWordEquals b w
 place_map (InAtom p) = InAtom p
 place_map (AfterUnit u) = AfterUnit (bounded u)
+place_map (Implying u) = Implying (bounded u)
+place_map (Whole u) = Whole (bounded u)
 
 abbrev frames_map : List (Frame Syntax) → List (Frame Bounded)
 frames_map [] = []
@@ -80,6 +82,27 @@ sum_bounded f u =
     ap (joined limited.either (option_map bounded f.sum)) (product_bounded f u)
     ∙ joined_bounded Either limited.either either_bounded f.sum (product_of tree f u)
 
+total_bounded : (f : Frame Syntax) (u : Syntax) → total_of limited (frame_map f) (bounded u) ≡ bounded (total_of tree f u)
+unfolding frame_map
+total_bounded f u =
+    ap (joined limited.either (option_map bounded f.premises)) (sum_bounded f u)
+    ∙ joined_bounded Either limited.either either_bounded f.premises (sum_of tree f u)
+
+premise_bounded : (f : Frame Syntax) (u : Syntax) → joined limited.either (option_map bounded f.premises) (limited.deny (sum_of limited (frame_map f) (bounded u))) ≡ bounded (joined Either f.premises (Deny (sum_of tree f u)))
+premise_bounded f u =
+    ap (λ x. joined limited.either (option_map bounded f.premises) (limited.deny x)) (sum_bounded f u)
+    ∙ ap (joined limited.either (option_map bounded f.premises)) (denied_bounded 1 (sum_of tree f u))
+    ∙ joined_bounded Either limited.either either_bounded f.premises (Deny (sum_of tree f u))
+
+implied_bounded : (u : Syntax) (f : Frame Syntax) (fs : List (Frame Syntax)) → Some (at Begin (with_premise limited (frame_map f) (bounded u)) (frames_map fs)) ≡ option_map state_map (Some (at Begin (with_premise tree f u) fs))
+unfolding frame_map
+implied_bounded u f fs =
+    ap (λ x. Some (at Begin (record { premises = Some x; sum = None; product = None; denials = 0 }) (frames_map fs))) (premise_bounded f u)
+
+said_bounded : (b : Bool) → said limited b ≡ bounded (said tree b)
+said_bounded true = refl
+said_bounded false = refl
+
 begin_bounded : (f : Frame Syntax) (fs : List (Frame Syntax)) (t : Tok) → next_begin (frame_map f) (frames_map fs) t ≡ option_map state_map (next_begin f fs t)
 unfolding frame_map
 begin_bounded f fs (Word class.Number w) = refl
@@ -96,12 +119,15 @@ begin_bounded f fs _ = refl
 after_bounded : (u : Syntax) (f : Frame Syntax) (fs : List (Frame Syntax)) (t : Tok) → next_after limited (bounded u) (frame_map f) (frames_map fs) t ≡ option_map state_map (next_after tree u f fs t)
 unfolding frame_map
 after_bounded u f fs (Sign And) =
-    ap (λ x. Some (at Begin (record { sum = option_map bounded f.sum; product = Some x; denials = 0 }) (frames_map fs))) (product_bounded f u)
+    ap (λ x. Some (at Begin (record { premises = option_map bounded f.premises; sum = option_map bounded f.sum; product = Some x; denials = 0 }) (frames_map fs))) (product_bounded f u)
 after_bounded u f fs (Sign Or) =
-    ap (λ x. Some (at Begin (record { sum = Some x; product = None; denials = 0 }) (frames_map fs))) (sum_bounded f u)
+    ap (λ x. Some (at Begin (record { premises = option_map bounded f.premises; sum = Some x; product = None; denials = 0 }) (frames_map fs))) (sum_bounded f u)
+after_bounded u f fs (Sign Equals) = refl
 after_bounded u f [] (Sign CloseParen) = refl
 after_bounded u f (g ∷ fs) (Sign CloseParen) =
-    ap (λ x. Some (at (AfterUnit x) (frame_map g) (frames_map fs))) (ap in_parentheses (sum_bounded f u) ∙ group_bounded (sum_of tree f u))
+    ap (λ x. Some (at (AfterUnit x) (frame_map g) (frames_map fs))) (ap in_parentheses (total_bounded f u) ∙ group_bounded (total_of tree f u))
+after_bounded u f [] (Sign Semicolon) = ap (λ x. Some (at (Whole x) empty [])) (total_bounded f u)
+after_bounded u f (g ∷ fs) (Sign Semicolon) = refl
 after_bounded u f fs _ = refl
 
 found_bounded : (d : Bool) (t : Target) (v : Value) → found_unit limited d t v ≡ bounded (found_unit tree d t v)
@@ -120,26 +146,31 @@ next_bounded (AfterNot w) f fs (Sign Equals) = refl
 next_bounded (AfterNot w) f fs (Sign Less) = refl
 next_bounded (AfterNot w) f fs (Sign Bang) = refl
 next_bounded (AfterNot w) f fs t = begin_bounded (with_denial f) fs t
-next_bounded (AfterTrue w) f fs (Sign Equals) = refl
-next_bounded (AfterTrue w) f fs (Sign Less) = refl
-next_bounded (AfterTrue w) f fs (Sign Bang) = refl
-next_bounded (AfterTrue w) f fs t = after_bounded True f fs t
-next_bounded (AfterFalse w) f fs (Sign Equals) = refl
-next_bounded (AfterFalse w) f fs (Sign Less) = refl
-next_bounded (AfterFalse w) f fs (Sign Bang) = refl
-next_bounded (AfterFalse w) f fs t = after_bounded False f fs t
+next_bounded (AfterWord b w) f fs (Sign Equals) = refl
+next_bounded (AfterWord b w) f fs (Sign Less) = refl
+next_bounded (AfterWord b w) f fs (Sign Bang) = refl
+next_bounded (AfterWord b w) f fs t = ap (λ u. next_after limited u (frame_map f) (frames_map fs) t) (said_bounded b) ∙ after_bounded (said tree b) f fs t
+next_bounded (AfterWordEquals b w) f fs (Sign Greater) = ap (λ u. Some (at Begin (with_premise limited (frame_map f) u) (frames_map fs))) (said_bounded b) ∙ implied_bounded (said tree b) f fs
+next_bounded (AfterWordEquals b w) f fs t = atom_bounded (next_atom (AfterEquals (Location w)) t) f fs
 next_bounded (InAtom p) f fs t = atom_bounded (next_atom p t) f fs
 next_bounded (AfterUnit u) f fs t = after_bounded u f fs t
+next_bounded (Implying u) f fs (Sign Greater) = implied_bounded u f fs
+next_bounded (Implying u) f fs t = refl
+next_bounded (Whole u) f fs t = refl
+
+whole_bounded : (p : Place Syntax) → whole_of (place_map p) ≡ option_map bounded (whole_of p)
+whole_bounded (Whole u) = refl
+whole_bounded _ = refl
 
 end_bounded : (p : Place Syntax) (f : Frame Syntax) (fs : List (Frame Syntax)) → end_in limited (place_map p) (frame_map f) (frames_map fs) ≡ option_map bounded (end_in tree p f fs)
-end_bounded p f (g ∷ fs) = refl
-end_bounded (AfterTrue w) f [] = ap Some (sum_bounded f True)
-end_bounded (AfterFalse w) f [] = ap Some (sum_bounded f False)
-end_bounded (AfterUnit u) f [] = ap Some (sum_bounded f u)
+end_bounded (AfterWord b w) f [] = ap Some (ap (total_of limited (frame_map f)) (said_bounded b) ∙ total_bounded f (said tree b))
+end_bounded (AfterUnit u) f [] = ap Some (total_bounded f u)
 end_bounded _ f [] = refl
+end_bounded p f (g ∷ fs) = whole_bounded p
 
 atoms_bounded : (p : Place Syntax) (t : Tok) → atoms_at (place_map p) t ≡ atoms_at p t
 atoms_bounded (InAtom p) t = refl
+atoms_bounded (AfterWordEquals b w) t = refl
 atoms_bounded _ t = refl
 
 abbrev pub result_bounded : Scan → Result (Bounded × List (Target × Value)) (List Lined)

@@ -1,10 +1,10 @@
 -- What the reader of conditions does, over any values for the parts of a condition.
-use Rattle.std.specs.Prelude.{ℕ, zero, suc, ◌+◌, List, [], ◌∷◌, ◌++◌, Bool, true, false, Option, Some, None, Result, Ok, Err}
+use Rattle.std.specs.Prelude.{ℕ, zero, suc, ◌+◌, List, [], ◌∷◌, ◌++◌, Bool, true, false, if◌then◌else◌, Option, Some, None, Result, Ok, Err}
 use Rattle.fs_litmus_tokens.specs.Tokens.{Tok, Lined, Word, Sign}
 use Rattle.fs_litmus_tokens.specs.Sections.{Move, Go, Finish, Bad}
 use Rattle.fs_litmus_tokens.specs.Values.{Target, Register, Location, Value, Number, Address}
 use Rattle.fs_litmus_tokens.specs.declared.word.Class.TheVariants as class
-use Rattle.fs_litmus_tokens.specs.declared.token.Mark.TheVariants.{Colon, Equals, Less, Greater, Bang, OpenBracket, CloseBracket, Minus, Tilde, OpenParen, CloseParen, And, Or}
+use Rattle.fs_litmus_tokens.specs.declared.token.Mark.TheVariants.{Colon, Equals, Less, Greater, Bang, OpenBracket, CloseBracket, Minus, Tilde, OpenParen, CloseParen, And, Or, Semicolon}
 
 -- ---- atoms
 
@@ -74,6 +74,8 @@ pub record Maker (X : Type 0) : Type 0 where
 
 -- what stands before a unit inside one pair of parentheses
 pub record Frame (X : Type 0) : Type 0 where
+  -- the disjunctions with => behind them, denied and joined
+  pub premises : Option X
   pub sum : Option X
   pub product : Option X
   pub denials : ℕ
@@ -81,10 +83,16 @@ pub record Frame (X : Type 0) : Type 0 where
 pub data Place (X : Type 0) : Type 0 where
   Begin : Place X
   AfterNot : (word : List ℕ) → Place X
-  AfterTrue : (word : List ℕ) → Place X
-  AfterFalse : (word : List ℕ) → Place X
+  -- one of the words true and false
+  AfterWord : (says : Bool) → (word : List ℕ) → Place X
+  -- the word, and =
+  AfterWordEquals : (says : Bool) → (word : List ℕ) → Place X
   InAtom : AtomPlace → Place X
   AfterUnit : X → Place X
+  -- = behind a unit
+  Implying : X → Place X
+  -- the semicolon behind this whole
+  Whole : X → Place X
 
 pub record State (X : Type 0) : Type 0 where
   pub place : Place X
@@ -100,10 +108,10 @@ denied f zero x = x
 denied f (suc n) x = f (denied f n x)
 
 abbrev pub empty : {X : Type 0} → Frame X
-empty = record { sum = None; product = None; denials = 0 }
+empty = record { premises = None; sum = None; product = None; denials = 0 }
 
 abbrev pub with_denial : {X : Type 0} → Frame X → Frame X
-with_denial f = record { sum = f.sum; product = f.product; denials = f.denials + 1 }
+with_denial f = record { premises = f.premises; sum = f.sum; product = f.product; denials = f.denials + 1 }
 
 abbrev pub at : {X : Type 0} → Place X → Frame X → List (Frame X) → State X
 at p f fs = record { place = p; frame = f; below = fs }
@@ -113,6 +121,11 @@ abbrev pub put_off : {X : Type 0} → Place X → ℕ
 put_off (AfterNot w) = 1
 put_off _ = 0
 
+-- the whole before a semicolon
+abbrev pub whole_of : {X : Type 0} → Place X → Option X
+whole_of (Whole x) = Some x
+whole_of _ = None
+
 abbrev pub start : {X : Type 0} → State X
 start = at Begin empty []
 
@@ -120,8 +133,8 @@ start = at Begin empty []
 abbrev pub next_begin : {X : Type 0} → Frame X → List (Frame X) → Tok → Option (State X)
 next_begin f fs (Word class.Number w) = Some (at (InAtom (AfterHart w)) f fs)
 next_begin f fs (Word class.NotWord w) = Some (at (AfterNot w) f fs)
-next_begin f fs (Word class.TrueWord w) = Some (at (AfterTrue w) f fs)
-next_begin f fs (Word class.FalseWord w) = Some (at (AfterFalse w) f fs)
+next_begin f fs (Word class.TrueWord w) = Some (at (AfterWord true w) f fs)
+next_begin f fs (Word class.FalseWord w) = Some (at (AfterWord false w) f fs)
 next_begin f fs (Word class.Other w) = None
 next_begin f fs (Word c w) = Some (at (InAtom (AfterTarget (Location w))) f fs)
 next_begin f fs (Sign OpenBracket) = Some (at (InAtom AfterBracket) f fs)
@@ -134,6 +147,21 @@ abbrev pub named_or : {X : Type 0} → Option AtomPlace → Frame X → List (Fr
 named_or None f fs says = says
 named_or (Some p) f fs says = Some (at (InAtom p) f fs)
 
+-- the same of the words true and false, behind which = may also be that of =>
+abbrev pub word_place : {X : Type 0} → Bool → List ℕ → Tok → Option (Place X)
+word_place b w (Sign Equals) = Some (AfterWordEquals b w)
+word_place b w (Sign Less) = Some (InAtom (AfterLess (Location w)))
+word_place b w (Sign Bang) = Some (InAtom (AfterBang (Location w)))
+word_place b w t = None
+
+abbrev pub placed_or : {X : Type 0} → Option (Place X) → Frame X → List (Frame X) → Option (State X) → Option (State X)
+placed_or None f fs says = says
+placed_or (Some p) f fs says = Some (at p f fs)
+
+abbrev pub is_greater : Tok → Bool
+is_greater (Sign Greater) = true
+is_greater _ = false
+
 -- the atoms that end with this token
 abbrev pub finished : Move AtomPlace Found → List (Target × Value)
 finished (Finish a) = (a.1, a.2) ∷ []
@@ -141,6 +169,7 @@ finished _ = []
 
 abbrev pub atoms_at : {X : Type 0} → Place X → Tok → List (Target × Value)
 atoms_at (InAtom p) t = finished (next_atom p t)
+atoms_at (AfterWordEquals b w) t = if is_greater t then [] else finished (next_atom (AfterEquals (Location w)) t)
 atoms_at _ t = []
 
 abbrev pub placed : {X : Type 0} → Option (Place X) → Frame X → List (Frame X) → Option (State X)
@@ -154,22 +183,43 @@ module _ {X : Type 0} (make : Maker X) where
   abbrev pub sum_of : Frame X → X → X
   sum_of f u = joined make.either f.sum (product_of f u)
 
+  abbrev pub total_of : Frame X → X → X
+  total_of f u = joined make.either f.premises (sum_of f u)
+
   abbrev pub with_unit : Frame X → X → Frame X
-  with_unit f u = record { sum = f.sum; product = Some (product_of f u); denials = 0 }
+  with_unit f u = record { premises = f.premises; sum = f.sum; product = Some (product_of f u); denials = 0 }
 
   abbrev pub with_conjunction : Frame X → X → Frame X
-  with_conjunction f u = record { sum = Some (sum_of f u); product = None; denials = 0 }
+  with_conjunction f u = record { premises = f.premises; sum = Some (sum_of f u); product = None; denials = 0 }
+
+  abbrev pub with_premise : Frame X → X → Frame X
+  with_premise f u = record { premises = Some (joined make.either f.premises (make.deny (sum_of f u))); sum = None; product = None; denials = 0 }
 
   -- a parenthesis closes
   abbrev pub closed : Frame X → List (Frame X) → X → Option (State X)
   closed f [] u = None
-  closed f (g ∷ fs) u = Some (at (AfterUnit (make.group (sum_of f u))) g fs)
+  closed f (g ∷ fs) u = Some (at (AfterUnit (make.group (total_of f u))) g fs)
+
+  -- a semicolon stands behind the whole
+  abbrev pub completed : Frame X → List (Frame X) → X → Option (State X)
+  completed f [] u = Some (at (Whole (total_of f u)) empty [])
+  completed f (g ∷ fs) u = None
 
   abbrev pub next_after : X → Frame X → List (Frame X) → Tok → Option (State X)
   next_after u f fs (Sign And) = Some (at Begin (with_unit f u) fs)
   next_after u f fs (Sign Or) = Some (at Begin (with_conjunction f u) fs)
+  next_after u f fs (Sign Equals) = Some (at (Implying u) f fs)
   next_after u f fs (Sign CloseParen) = closed f fs u
+  next_after u f fs (Sign Semicolon) = completed f fs u
   next_after u f fs _ = None
+
+  -- behind a unit and =, > makes a premise
+  abbrev pub implied : X → Frame X → List (Frame X) → Tok → Option (State X) → Option (State X)
+  implied u f fs t otherwise = if is_greater t then Some (at Begin (with_premise f u) fs) else otherwise
+
+  abbrev pub said : Bool → X
+  said true = make.truth
+  said false = make.falsity
 
   abbrev pub found_unit : Bool → Target → Value → X
   found_unit false t v = make.atom t v
@@ -183,29 +233,27 @@ module _ {X : Type 0} (make : Maker X) where
   abbrev pub next_in : Place X → Frame X → List (Frame X) → Tok → Option (State X)
   next_in Begin f fs t = next_begin f fs t
   next_in (AfterNot w) f fs t = named_or (compared_by (Location w) t) f fs (next_begin (with_denial f) fs t)
-  next_in (AfterTrue w) f fs t = named_or (compared_by (Location w) t) f fs (next_after make.truth f fs t)
-  next_in (AfterFalse w) f fs t = named_or (compared_by (Location w) t) f fs (next_after make.falsity f fs t)
+  next_in (AfterWord b w) f fs t = placed_or (word_place b w t) f fs (next_after (said b) f fs t)
+  next_in (AfterWordEquals b w) f fs t = implied (said b) f fs t (placed (place_after (next_atom (AfterEquals (Location w)) t)) f fs)
   next_in (InAtom p) f fs t = placed (place_after (next_atom p t)) f fs
   next_in (AfterUnit u) f fs t = next_after u f fs t
+  next_in (Implying u) f fs t = implied u f fs t None
+  next_in (Whole x) f fs t = None
 
   abbrev pub next : State X → Tok → Option (State X)
   next s t = next_in s.place s.frame s.below t
 
-  -- the last unit, where a condition may end
-  abbrev pub last_unit : Place X → Option X
-  last_unit (AfterTrue w) = Some make.truth
-  last_unit (AfterFalse w) = Some make.falsity
-  last_unit (AfterUnit u) = Some u
-  last_unit _ = None
-
-  abbrev pub total : Frame X → Option X → Option X
-  total f None = None
-  total f (Some u) = Some (sum_of f u)
+  -- the whole, where no parenthesis is open and the text may end
+  abbrev pub end_at : Place X → Frame X → Option X
+  end_at (AfterWord b w) f = Some (total_of f (said b))
+  end_at (AfterUnit u) f = Some (total_of f u)
+  end_at (Whole x) f = Some x
+  end_at _ f = None
 
   -- the whole, where the text may end
   abbrev pub end_in : Place X → Frame X → List (Frame X) → Option X
-  end_in p f [] = total f (last_unit p)
-  end_in p f (g ∷ fs) = None
+  end_in p f [] = end_at p f
+  end_in p f (g ∷ fs) = whole_of p
 
   abbrev pub end_of : State X → Option X
   end_of s = end_in s.place s.frame s.below

@@ -22,7 +22,7 @@ use Rattle.fs_litmus_syntax.specs.declared.reader.Place as spots
 use Rattle.fs_litmus_syntax.specs.declared.reader.Place.TheVariants as spot
 use Rattle.fs_litmus_syntax.specs.declared.reader.Reader.{Reader}
 use Rattle.fs_litmus_syntax.specs.Meaning.{Condition, Atom, True, False, Deny, Both, Either}
-use Rattle.fs_litmus_syntax.specs.Machine.{AtomPlace, AfterHart, AfterColon, AfterBracket, AfterName, AfterTarget, AfterLess, AfterBang, AfterEquals, BeforeValue, AfterMinus, Found, Frame, Place, Begin, AfterNot, AfterTrue, AfterFalse, InAtom, AfterUnit, State}
+use Rattle.fs_litmus_syntax.specs.Machine.{AtomPlace, AfterHart, AfterColon, AfterBracket, AfterName, AfterTarget, AfterLess, AfterBang, AfterEquals, BeforeValue, AfterMinus, Found, Frame, Place, Begin, AfterNot, AfterWord, AfterWordEquals, InAtom, AfterUnit, Implying, Whole, State}
 use Rattle.fs_litmus_syntax.specs.Limited.{Bounded, Deep, Fine}
 
 abbrev pub atom_of : atoms.Atom → Target × Value
@@ -63,15 +63,17 @@ atom_step_of (steps.Done denies a) = Finish (denies, target_of a.target, value_o
 atom_step_of steps.Bad = Bad
 
 abbrev pub layer_of : Layer → Frame Bounded
-layer_of l = record { sum = option_map subformula_of l.sum; product = option_map subformula_of l.product; denials = l.denials }
+layer_of l = record { premises = option_map subformula_of l.premises; sum = option_map subformula_of l.sum; product = option_map subformula_of l.product; denials = l.denials }
 
 abbrev pub place_of : spots.Place → Place Bounded
 place_of spot.Begin = Begin
 place_of (spot.AfterNot w) = AfterNot w.now
-place_of (spot.AfterTrue w) = AfterTrue w.now
-place_of (spot.AfterFalse w) = AfterFalse w.now
+place_of (spot.AfterWord b w) = AfterWord b w.now
+place_of (spot.AfterWordEquals b w) = AfterWordEquals b w.now
 place_of (spot.InAtom p) = InAtom (atom_place_of p)
 place_of (spot.AfterUnit u) = AfterUnit (subformula_of u)
+place_of (spot.Implying u) = Implying (subformula_of u)
+place_of (spot.Whole x) = Whole (subformula_of x)
 
 -- the innermost layer is the last
 abbrev pub below_of : List Layer → List (Frame Bounded) → List (Frame Bounded)

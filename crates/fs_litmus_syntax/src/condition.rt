@@ -9,8 +9,8 @@ pub struct Atom<'a> {
     pub value: Value<'a>,
 }
 
-/// A condition as it is grouped. `/\` binds tighter than `\/`, `~` and `not` tighter than both, and each connective
-/// associates to the left.
+/// A condition as it is grouped. `/\` binds tighter than `\/`, and `~` and `not` tighter than both; each connective
+/// associates to the left. `=>`, which binds least, is a denial and `\/`.
 #[derive(Drop)]
 pub enum Tree<'a> {
     Atom(Atom<'a>),

@@ -4,12 +4,13 @@ ghost use Rattle.std.specs.Prelude.{◌≡◌, ◌<◌, ◌+◌, ◌++◌, [], I
 ghost use Rattle.fs_litmus_tokens.specs.Tokens.{kind_of, views};
 ghost use Rattle.fs_litmus_syntax.specs.Grammar.{Syntax, IsCondition};
 ghost use Rattle.fs_litmus_syntax.specs.Answer.{Means, StopsAt};
-ghost use Rattle.fs_litmus_tokens.specs.Values.{Location, target_of, value_of};
-ghost use Rattle.fs_litmus_syntax.specs.Machine.{next_begin, next_after, compared_by, named_or, found_unit, closed};
-ghost use Rattle.fs_litmus_syntax.specs.Machine.{finished, next_atom, at, InAtom, atoms_at, put_off, place_after};
-ghost use Rattle.fs_litmus_syntax.specs.Machine.{next, last_unit, end_of, read, start};
-ghost use Rattle.fs_litmus_syntax.specs.Limited.{Fine, limited};
-ghost use Rattle.fs_litmus_syntax.specs.Views.{subformula_of, tree_of, atom_of, atom_place_of, layer_of, below_of};
+ghost use Rattle.fs_litmus_tokens.specs.Values.{target_of, value_of};
+ghost use Rattle.fs_litmus_syntax.specs.Machine.{next_begin, next_after, found_unit, closed, completed};
+ghost use Rattle.fs_litmus_syntax.specs.Machine.{word_place, placed_or, placed, is_greater, with_premise, said, Begin};
+ghost use Rattle.fs_litmus_syntax.specs.Machine.{finished, next_atom, at, atoms_at, put_off, place_after, whole_of};
+ghost use Rattle.fs_litmus_syntax.specs.Machine.{next, end_at, end_of, read, start};
+ghost use Rattle.fs_litmus_syntax.specs.Limited.{limited};
+ghost use Rattle.fs_litmus_syntax.specs.Views.{subformula_of, atom_of, atom_place_of, layer_of, below_of};
 ghost use Rattle.fs_litmus_syntax.specs.Views.{place_of, reader_of, Gives};
 
 use crate::atom::{AtomPlace, AtomStep, compared_by};
@@ -19,16 +20,22 @@ use crate::subformula::Subformula;
 use fs_litmus_tokens::{Class, Kind, Mark, Stop, Target, Token};
 use std::alloc::{AllocError, Global};
 
-/// What was read last. After one of the words `not`, `true` and `false` the next token decides whether it names a
-/// location.
+/// What was read last. After one of the words `not`, `true` and `false` the next token, or the one behind `=`, decides
+/// whether it names a location.
 #[derive(Drop)]
 enum Place<'a> {
     Begin,
     AfterNot(&'a str),
-    AfterTrue(&'a str),
-    AfterFalse(&'a str),
+    /// One of the words `true` and `false`.
+    AfterWord(bool, &'a str),
+    /// The word, and `=`.
+    AfterWordEquals(bool, &'a str),
     InAtom(AtomPlace<'a>),
     AfterUnit(Subformula<'a>),
+    /// `=` behind a unit.
+    Implying(Subformula<'a>),
+    /// The semicolon behind this whole.
+    Whole(Subformula<'a>),
 }
 
 /// What is read so far of a condition, but for its atoms: the layers of the parentheses that are open, the innermost
@@ -54,8 +61,8 @@ fn begin<'a>(
         Kind::Word(class, word) => match class {
             Class::Number => Place::InAtom(AtomPlace::AfterHart(word)),
             Class::NotWord => Place::AfterNot(word),
-            Class::TrueWord => Place::AfterTrue(word),
-            Class::FalseWord => Place::AfterFalse(word),
+            Class::TrueWord => Place::AfterWord(true, word),
+            Class::FalseWord => Place::AfterWord(false, word),
             Class::Other => return Ok(None),
             _ => Place::InAtom(AtomPlace::AfterTarget(Target::Location(word))),
         },
@@ -112,6 +119,27 @@ fn close<'a>(
     }
 }
 
+/// A semicolon behind the whole.
+fn complete<'a>(
+    alloc: Global,
+    unit: Subformula<'a>,
+    layer: Layer<'a>,
+    below: Vec<Layer<'a>>,
+) -> Result<Option<Reader<'a>>, AllocError>
+    ensures { IfOk result (λ r. option_map reader_of r
+        ≡ completed limited (layer_of layer.entry) (below_of below.entry.items []) (subformula_of unit.entry)) }
+{
+    if !below.is_empty() {
+        return Ok(None);
+    }
+    let whole = layer.total(alloc, unit)?;
+    Ok(Some(Reader {
+        place: Place::Whole(whole),
+        layer: Layer::new(),
+        below,
+    }))
+}
+
 /// After a unit.
 fn after<'a>(
     alloc: Global,
@@ -134,53 +162,96 @@ fn after<'a>(
             }))
         }
         Kind::Sign(Mark::Or) => {
-            let subformula = layer.total(alloc, unit)?;
-            let layer = Layer {
-                sum: Some(subformula),
-                product: None,
-                denials: 0,
-            };
+            let layer = layer.with_conjunction(alloc, unit)?;
             Ok(Some(Reader {
                 place: Place::Begin,
                 layer,
                 below,
             }))
         }
+        Kind::Sign(Mark::Equals) => Ok(Some(Reader {
+            place: Place::Implying(unit),
+            layer,
+            below,
+        })),
         Kind::Sign(Mark::CloseParen) => close(alloc, unit, layer, below),
+        Kind::Sign(Mark::Semicolon) => complete(alloc, unit, layer, below),
         _ => Ok(None),
     }
 }
 
-/// The first token of the sign of an atom.
-fn compared<'a>(place: AtomPlace<'a>, layer: Layer<'a>, below: Vec<Layer<'a>>) -> Reader<'a>
-    ensures { reader_of result
-        ≡ at (InAtom (atom_place_of place.entry)) (layer_of layer.entry) (below_of below.entry.items []) }
+/// Is it the `>` of `=>`?
+fn is_greater(kind: Kind<'_>) -> bool
+    ensures { result ≡ is_greater (kind_of kind.entry) }
 {
-    Reader {
-        place: Place::InAtom(place),
+    matches!(kind, Kind::Sign(Mark::Greater))
+}
+
+/// A unit, and then `=>`.
+fn imply<'a>(
+    alloc: Global,
+    unit: Subformula<'a>,
+    layer: Layer<'a>,
+    below: Vec<Layer<'a>>,
+) -> Result<Reader<'a>, AllocError>
+    ensures { IfOk result (λ r. reader_of r
+        ≡ at Begin (with_premise limited (layer_of layer.entry) (subformula_of unit.entry))
+        (below_of below.entry.items [])) }
+{
+    let layer = layer.with_premise(alloc, unit)?;
+    Ok(Reader {
+        place: Place::Begin,
         layer,
         below,
+    })
+}
+
+/// What the word `true` or `false` says.
+fn said<'a>(alloc: Global, says: bool) -> Result<Subformula<'a>, AllocError>
+    ensures { IfOk result (λ p. subformula_of p ≡ said limited says) }
+{
+    if says {
+        Subformula::leaf(alloc, Tree::True)
+    } else {
+        Subformula::leaf(alloc, Tree::False)
     }
 }
 
-/// After `true` or `false`, which names a location where the sign of an atom follows.
+/// Behind the word `true` or `false`, the sign of an atom, or the `=` of `=>`.
+fn word_place<'a>(says: bool, word: &'a str, kind: Kind<'a>) -> Option<Place<'a>>
+    ensures { option_map place_of result ≡ word_place says word.entry.now (kind_of kind.entry) }
+{
+    let target = Target::Location(word);
+    match kind {
+        Kind::Sign(Mark::Equals) => Some(Place::AfterWordEquals(says, word)),
+        Kind::Sign(Mark::Less) => Some(Place::InAtom(AtomPlace::AfterLess(target))),
+        Kind::Sign(Mark::Bang) => Some(Place::InAtom(AtomPlace::AfterBang(target))),
+        _ => None,
+    }
+}
+
+/// After `true` or `false`.
 fn after_word<'a>(
     alloc: Global,
+    says: bool,
     word: &'a str,
-    says: Tree<'a>,
     layer: Layer<'a>,
     below: Vec<Layer<'a>>,
     kind: Kind<'a>,
 ) -> Result<Option<Reader<'a>>, AllocError>
     ensures { IfOk result (λ r. option_map reader_of r
-        ≡ named_or (compared_by (Location word.entry.now) (kind_of kind.entry)) (layer_of layer.entry)
-        (below_of below.entry.items []) (next_after limited (Fine 0 0 (tree_of says.entry)) (layer_of layer.entry)
+        ≡ placed_or (word_place says word.entry.now (kind_of kind.entry)) (layer_of layer.entry)
+        (below_of below.entry.items []) (next_after limited (said limited says) (layer_of layer.entry)
         (below_of below.entry.items []) (kind_of kind.entry))) }
 {
-    match compared_by(Target::Location(word), kind) {
-        Some(place) => Ok(Some(compared(place, layer, below))),
+    match word_place(says, word, kind) {
+        Some(place) => Ok(Some(Reader {
+            place,
+            layer,
+            below,
+        })),
         None => {
-            let unit = Subformula::leaf(alloc, says)?;
+            let unit = said(alloc, says)?;
             after(alloc, unit, layer, below, kind)
         }
     }
@@ -195,8 +266,8 @@ fn found_unit<'a>(alloc: Global, denies: bool, atom: Atom<'a>) -> Result<Subform
     if denies { unit.denied(alloc) } else { Ok(unit) }
 }
 
-/// In an atom.
-fn in_atom<'a>(
+/// What one more token of an atom makes.
+fn atom_place<'a>(
     alloc: Global,
     atoms: &mut Vec<Atom<'a>>,
     place: AtomPlace<'a>,
@@ -215,6 +286,31 @@ fn in_atom<'a>(
             Ok(Some(Place::AfterUnit(unit)))
         }
         AtomStep::Bad => Ok(None),
+    }
+}
+
+/// In an atom.
+fn in_atom<'a>(
+    alloc: Global,
+    atoms: &mut Vec<Atom<'a>>,
+    place: AtomPlace<'a>,
+    layer: Layer<'a>,
+    below: Vec<Layer<'a>>,
+    kind: Kind<'a>,
+) -> Result<Option<Reader<'a>>, AllocError>
+    ensures reader { IfOk result (λ r. option_map reader_of r
+        ≡ placed (place_after limited (next_atom (atom_place_of place.entry) (kind_of kind.entry)))
+        (layer_of layer.entry) (below_of below.entry.items [])) }
+    ensures atoms { OnOk result (map atom_of atoms.new.items
+        ≡ map atom_of atoms.old.items ++ finished (next_atom (atom_place_of place.entry) (kind_of kind.entry))) }
+{
+    match atom_place(alloc, atoms, place, kind)? {
+        Some(place) => Ok(Some(Reader {
+            place,
+            layer,
+            below,
+        })),
+        None => Ok(None),
     }
 }
 
@@ -239,33 +335,60 @@ fn step<'a>(
     match place {
         Place::Begin => begin(layer, below, kind),
         Place::AfterNot(word) => match compared_by(Target::Location(word), kind) {
-            Some(place) => Ok(Some(compared(place, layer, below))),
-            None => begin(layer.with_denial(), below, kind),
-        },
-        Place::AfterTrue(word) => after_word(alloc, word, Tree::True, layer, below, kind),
-        Place::AfterFalse(word) => after_word(alloc, word, Tree::False, layer, below, kind),
-        Place::InAtom(place) => match in_atom(alloc, atoms, place, kind)? {
             Some(place) => Ok(Some(Reader {
-                place,
+                place: Place::InAtom(place),
                 layer,
                 below,
             })),
-            None => Ok(None),
+            None => begin(layer.with_denial(), below, kind),
         },
+        Place::AfterWord(says, word) => after_word(alloc, says, word, layer, below, kind),
+        Place::AfterWordEquals(says, word) => {
+            if is_greater(kind) {
+                let unit = said(alloc, says)?;
+                return Ok(Some(imply(alloc, unit, layer, below)?));
+            }
+            let place = AtomPlace::AfterEquals(Target::Location(word));
+            in_atom(alloc, atoms, place, layer, below, kind)
+        }
+        Place::InAtom(place) => in_atom(alloc, atoms, place, layer, below, kind),
         Place::AfterUnit(unit) => after(alloc, unit, layer, below, kind),
+        Place::Implying(unit) => {
+            if is_greater(kind) {
+                return Ok(Some(imply(alloc, unit, layer, below)?));
+            }
+            Ok(None)
+        }
+        Place::Whole(_) => Ok(None),
     }
 }
 
-/// The last unit, where the text may end.
-fn last_unit<'a>(alloc: Global, place: Place<'a>) -> Result<Option<Subformula<'a>>, AllocError>
-    ensures { IfOk result (λ u. option_map subformula_of u ≡ last_unit limited (place_of place.entry)) }
+/// The whole before a semicolon.
+fn whole_of<'a>(place: Place<'a>) -> Option<Subformula<'a>>
+    ensures { option_map subformula_of result ≡ whole_of (place_of place.entry) }
 {
     match place {
-        Place::AfterTrue(_) => Ok(Some(Subformula::leaf(alloc, Tree::True)?)),
-        Place::AfterFalse(_) => Ok(Some(Subformula::leaf(alloc, Tree::False)?)),
-        Place::AfterUnit(unit) => Ok(Some(unit)),
-        _ => Ok(None),
+        Place::Whole(whole) => Some(whole),
+        _ => None,
     }
+}
+
+/// The whole, where no parenthesis is open and the text may end.
+fn end_at<'a>(
+    alloc: Global,
+    place: Place<'a>,
+    layer: Layer<'a>,
+) -> Result<Option<Subformula<'a>>, AllocError>
+    ensures { IfOk result (λ p. option_map subformula_of p
+        ≡ end_at limited (place_of place.entry) (layer_of layer.entry)) }
+{
+    let unit = match place {
+        Place::AfterWord(says, _) => said(alloc, says)?,
+        Place::AfterUnit(unit) => unit,
+        Place::Whole(whole) => return Ok(Some(whole)),
+        _ => return Ok(None),
+    };
+    Ok(Some(layer.total(alloc, unit)?))
 }
 
 /// The whole, where the text may end.
@@ -278,12 +401,9 @@ fn finish<'a>(alloc: Global, reader: Reader<'a>) -> Result<Option<Subformula<'a>
         below,
     } = reader;
     if !below.is_empty() {
-        return Ok(None);
+        return Ok(whole_of(place));
     }
-    match last_unit(alloc, place)? {
-        Some(unit) => Ok(Some(layer.total(alloc, unit)?)),
-        None => Ok(None),
-    }
+    end_at(alloc, place, layer)
 }
 
 /// What the machine reads.
@@ -311,11 +431,12 @@ fn read_all<'b, 'a>(alloc: Global, tokens: &'b [Token<'a>]) -> Result<Condition<
     }
 }
 
-/// The condition that the tokens are, all of them, in herd7's format: units joined by `/\`, and these joined by `\/`; a
-/// unit is `~` or the word `not` and a unit, a condition in parentheses, `true`, `false`, or an atom: a target, `=` or
-/// `==` and a value, or `<>` or `!=`, which denies it. No word is reserved: where one of these comes after `not`, `true`
-/// or `false`, the word names a location. Stops at the first token with which the tokens so far begin no condition.
-/// Linear in the tokens; at most 56 bytes of memory an open parenthesis, a few words an atom, and no recursion.
+/// The condition that the tokens are, all of them, in herd7's format: units joined by `/\`, these joined by `\/`, and
+/// these by `=>`, which denies what stands before it and is `\/` then. A unit is `~` or the word `not` and a unit, a
+/// condition in parentheses, `true`, `false`, or an atom: a target, `=` or `==` and a value, or `<>` or `!=`, which
+/// denies it. No word is reserved: where one of these comes after `not`, `true` or `false`, the word names a location. A
+/// `;` may stand behind it. Stops at the first token with which the tokens so far begin no condition. Linear in the
+/// tokens; at most 80 bytes of memory an open parenthesis, a few words an atom, and no recursion.
 pub fn read_condition<'b, 'a>(
     alloc: Global,
     tokens: &'b [Token<'a>],

@@ -7,4 +7,4 @@ pub returns-then-not-is_empty : goal.returns-then-not-is_empty
 returns-then-not-is_empty c =
     let r = c.args.reader in
     let some = false-eqb _ 0 (sym c.if-not-is_empty.true ∙ c.is_empty.ensures) in
-    sym (not_ended (place_of r.place) (layer_of r.layer) r.below.items (omega (arith, some, r.below.ok.0)))
+    c.whole_of.ensures ∙ sym (not_ended (place_of r.place) (layer_of r.layer) r.below.items (omega (arith, some, r.below.ok.0)))
