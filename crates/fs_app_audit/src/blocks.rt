@@ -221,10 +221,10 @@ fn block_at(found: Found<'_>, prices: &[u8], is_anew: bool) -> Result<Block, Fau
 {
     let Found {
         prices: own,
-        is_anew: kind,
+        is_anew: was_anew,
         block,
     } = found;
-    if is_alike(kind, is_anew) && is_same(own, prices) {
+    if is_alike(was_anew, is_anew) && is_same(own, prices) {
         Ok(block)
     } else {
         Err(Fault::Unmatched)
