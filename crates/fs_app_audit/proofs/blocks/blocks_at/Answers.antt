@@ -1,5 +1,4 @@
 use Rattle.fs_app_audit.proofs.Blocked.{block_more}
-use Rattle.fs_app_audit.specs.Blocks.{AreBlocks}
 use Rattle.fs_app_audit.proofs.blocks.blocks_at.Goals as goal
 
 pub loop-one-preserved : goal.loop-one-preserved
