@@ -64,15 +64,18 @@ ESCAPE = re.compile('%s%s|(?P<half>%s)|%s' % (HALF % '89abAB', HALF % 'c-fC-F', 
 
 
 def json_of(data):
-    """The value that these bytes write, RFC 8259 in UTF-8; of a doubled key the last one counts. Else a ValueError.
-    Half a surrogate pair is no text, wherever it stands; Python would take it."""
-    text = data.decode('utf-8')
-    if any(escape['half'] for escape in ESCAPE.finditer(text)):
-        raise ValueError('half a surrogate pair')
-    brackets = re.sub(r'"(?:[^"\\]|\\.)*"|[^][{}"]+|"', '', text, flags=re.DOTALL)
-    if max(itertools.accumulate(1 if bracket in '[{' else -1 for bracket in brackets), default=0) > 127:
-        raise ValueError('too deep')
-    return json.loads(text, parse_int=number_of_json, parse_float=number_of_json, parse_constant=number_of_json)
+    """The value that these bytes write, RFC 8259 in UTF-8; of a doubled key the last one counts. None, as of `null`,
+    where they are no such text, or one that is nested too deep, also for Python. Half a surrogate pair is no text,
+    wherever it stands; Python would take it."""
+    try:
+        text = data.decode('utf-8')
+        is_text = not any(escape['half'] for escape in ESCAPE.finditer(text))
+        brackets = re.sub(r'"(?:[^"\\]|\\.)*"|[^][{}"]+|"', '', text, flags=re.DOTALL)
+        depths = itertools.accumulate(1 if bracket in '[{' else -1 for bracket in brackets)
+        how = dict.fromkeys(['parse_int', 'parse_float', 'parse_constant'], number_of_json)
+        return json.loads(text, **how) if is_text and max(depths, default=0) <= 127 else None
+    except (ValueError, RecursionError):
+        return None
 
 
 def is_whole(value, below=2 ** 64):
@@ -585,10 +588,7 @@ class Prices:
 
 def prices_of(data):
     """The price list that these bytes are. Raises its fault, where it has one."""
-    try:
-        value = json_of(data)
-    except (ValueError, RecursionError):
-        value = None
+    value = json_of(data)
     weight = value.pop('weights', {}) if type(value) is dict else None
     if not (type(weight) is dict and all(is_byte_name(slot) and is_whole(it, 1001) for slot, it in weight.items())
             and all(kind in KINDS and is_whole(price, 1000001) and price > 0 for kind, price in value.items())):
@@ -1024,11 +1024,8 @@ FILES = [{'version': version, 'answer': lambda answer: answer == 'none' or has_f
 
 
 def certificate_of(data):
-    """The certificate that these bytes are. What is nested deeper than Python reads counts as none."""
-    try:
-        value = json_of(data)
-    except (ValueError, RecursionError):
-        value = None
+    """The certificate that these bytes are."""
+    value = json_of(data)
     if any(has_form(value, form) for form in FILES):
         return value
     raise NotACertificate('fault F18 BadCertificate')
@@ -1402,8 +1399,6 @@ class Checker:
             return ['none', json.dumps(witness, separators=(',', ':'))]
         return ['fenced %d' % self.cost] + fence_lines(self.slots, self.answer)
 
-
-# --- The command -------------------------------------------------------------------------------------------------
 
 def read(path, reader):
     """What this reader makes of the file."""

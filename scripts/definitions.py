@@ -82,13 +82,11 @@ def items_of(file):
         for number, item in enumerate(starts):
             end = starts[number + 1].start() if number + 1 < len(starts) else len(part)
             body = [it for it in part[item.start():end].split("\n") if it.strip()]
-            lines[item[2]] = body
+            lines[item[2]] = [module, *body] if item[1] and module else body
             owners[item[2]] = item[2]
             if " data " in f" {item[0]}":
                 for constructors in CONSTRUCTORS.findall("\n".join(body)):
                     owners.update((it, item[2]) for it in constructors.split())
-            if item[1] and module:
-                lines[item[2]] = [module, *body]
     return owners, lines
 
 

@@ -22,10 +22,8 @@ class Fault(Exception):
     """Why there is no answer, as the line that is printed."""
 
 
-# --- Faults of a test's runs and candidates (MODEL 11 and 15) ----------------------------------------------------
-
 def refuse_runs(test, words):
-    """Raises the first fault of a hart whose loads take these words. Of runs no more is kept than where they end."""
+    """Raises the first fault of a hart whose loads take these words (MODEL 11). Of runs only their ends are kept."""
     for hart in range(len(test.code)):
         ends = [end.args[0] if isinstance(end, model.GoesAstray) else None
                 for end in itertools.islice(model.ends_over(test, hart, words), MOST_RUNS + 1)]
@@ -65,7 +63,7 @@ def raw_candidates(test, accesses):
 
 
 def count_candidates(test, all_runs, most=MOST_CANDIDATES):
-    """How many raw candidates there are. Raises a fault where there are too many, or too many lists of runs."""
+    """How many raw candidates there are (MODEL 15). Raises a fault where they are, or lists of runs, too many."""
     alike = [collections.Counter(map(accesses_of, runs)) for runs in all_runs]
     if math.prod(map(len, all_runs)) > most:
         raise Fault('fault F15 TooManyCandidates')
@@ -77,8 +75,6 @@ def count_candidates(test, all_runs, most=MOST_CANDIDATES):
             raise Fault('fault F15 TooManyCandidates')
     return count
 
-
-# --- Relations as rows of bits -----------------------------------------------------------------------------------
 
 def joined(rows, others):
     return [row | other for row, other in zip(rows, others)]
@@ -100,8 +96,6 @@ def rows_where(operations, is_edge):
     """A row for each of these operations, counted from 0. No edge enters an initial store: these are on no cycle."""
     return [sum(1 << at for at, b in enumerate(operations) if b is not a and is_edge(a, b)) for a in operations]
 
-
-# --- What a placement must break ---------------------------------------------------------------------------------
 
 SOURCE_RULES = (2, 3, 12)       # those that look at sources; of rule 4 the written fences alone are meant here
 OTHER_RULES = (1, 4, 5, 6, 7, 8, 9, 10, 11, 13)
@@ -218,8 +212,6 @@ class Problem:
         return self.prices.cost(self.slots, placement)
 
 
-# --- The answer, by breaking one execution after the other -------------------------------------------------------
-
 class Breaks:
     """Which placements break all of some executions: of each slot and option the executions that it breaks, as bits."""
 
@@ -269,8 +261,6 @@ def solved(problem):
             return placement
         breaks.add(live.kept(placement))
 
-
-# --- What is printed -------------------------------------------------------------------------------------------------
 
 def lines_of(problem, placement):
     if placement is None:

@@ -44,10 +44,7 @@ def fault_of(data, reader=model.test_of):
 
 def read_witness(data):
     """The witness that these bytes are, or None. Where a key stands twice, the last one counts."""
-    try:
-        value = model.json_of(data)
-    except (ValueError, RecursionError):
-        return None
+    value = model.json_of(data)
     return value if model.has_form(value, model.WITNESS) else None
 
 

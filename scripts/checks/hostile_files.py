@@ -51,8 +51,6 @@ def witness_of(choices, order):
     return f'{{"choices":[{choices}],"order":[{order}]}}'.encode()
 
 
-# --- The table ---------------------------------------------------------------------------------------------------
-
 # What a text of the table stands for.
 PARTS = {"init": lambda text: litmus(init=text), "init, no cell": lambda text: litmus(init=text, cell=""),
          "cell": lambda text: litmus(cell=text), "condition": lambda text: litmus(condition=text), "whole": str.encode,
@@ -87,8 +85,6 @@ def flooded(group, signs, wanted, size=MEBIBYTE - 100):
         place, text = line.split(" | ")
         yield f"{sign!r} {place}", text.encode().replace(b"@", sign * (size // len(sign))), wanted
 
-
-# --- Tests -------------------------------------------------------------------------------------------------------
 
 def beginnings_of(what, whole, answer):
     for count in range(len(whole)):
@@ -260,8 +256,6 @@ def samples():
     yield from sizes()
 
 
-# --- Prices, words, logs and witnesses ---------------------------------------------------------------------------
-
 # What begins or ends a value of JSON, or is no part of one.
 SIGNS_OF_JSON = [b"[", b"{", b"]", b"}", b'"', b"\\", b"0", b"-", b"e", b",", b":", b"\0", b"\xff"]
 
@@ -351,8 +345,6 @@ def witnesses():
     for text in (b"\xff", b"\xc0\xaf", b"\xed\xa0\x80", b"\\ud800", b"\\u0000", b"\n", b"\0"):
         yield f"{text!r} in a name", whole.replace(b"P0:2", b"P0:2" + text), WITNESS
 
-
-# --- Certificates ------------------------------------------------------------------------------------------------
 
 JUDGE = Judge(f"{EXAMPLES}/SB.litmus", f"{EXAMPLES}/prices.json")
 

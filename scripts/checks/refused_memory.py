@@ -1,8 +1,8 @@
 """Refuses each request for memory of some runs in turn, one request a run. Every such run must either end with status
 3, nothing on standard output and `fault F19 Memory` on standard error (of `states` below the faults of files), or end
 as it does with ample memory, but perhaps without messages that explain faults. It leaves no part of a certificate, and
-a whole one where it has answered. The command lines are in scripts/transcripts/refused.table. (In none do other threads
-join the first; crates/fs_tests_search has such.) Some command lines there have the most requests that they may make.
+a whole one where it has answered. The command lines are in scripts/transcripts/refused.table; of some the number of
+requests is looked at alone.
 
 Then come the calls of the program `fs_tests_out_of_memory`. Where the gate hasn't built that, or a source is newer, it
 is built now; with --quick they are left out then. A run of one part of it makes that part's calls, and makes a call

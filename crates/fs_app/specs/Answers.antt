@@ -1,5 +1,6 @@
 -- What a command answers, of the files that it has read. What a file gives when it is read no definition says.
-use Rattle.std.specs.Prelude.{◌≡◌, ℕ, Bool, true, false, ◌&&◌, List, [], ◌++◌, Option, IfSome, IsSome, is_some, map, option_map, string_bytes, if◌then◌else◌}
+use Rattle.std.specs.Prelude.{◌≡◌, ℕ, Bool, true, false, ◌&&◌, List, [], ◌∷◌, ◌++◌, Option, IfSome, IsSome, is_some, map, option_map, string_bytes, if◌then◌else◌}
+use Rattle.fs_app_io.specs.declared.source.Source.{Source}
 use Rattle.fs_app_io.specs.declared.status.Output.{Output}
 use Rattle.fs_app_io.specs.declared.status.Status.{Status}
 use Rattle.fs_app_io.specs.declared.status.Status.TheVariants.{Success, Denied, Failure}
@@ -8,8 +9,11 @@ use Rattle.fs_app_place_order.specs.Order.{IsOrderAnswer}
 use Rattle.fs_report.specs.Objects.{AreOneAnswer}
 use Rattle.fs_app_solve.specs.Solve.{IsSolved}
 use Rattle.fs_app_audit.specs.Audit.{IsAnew, IsAudited, IsMended, IsFirstAnewFault, IsFirstAuditFault, IsFirstMendedFault}
+use Rattle.fs_app_audit.specs.Blocks.{AreBlocks, are_named, blocks_status, blocks_text}
+use Rattle.fs_app_audit.specs.declared.blocks.Block.{Block}
 use Rattle.fs_kinds.specs.declared.fault.Fault.{Fault}
 use Rattle.fs_app_check.specs.Check.{IsChecked, AreOneVerdict}
+use Rattle.fs_app_test.specs.declared.said.Kind.{Kind}
 use Rattle.fs_app_test.specs.declared.said.Line.{Line}
 use Rattle.fs_app_test.specs.Status.{report_status}
 use Rattle.fs_app_test.specs.Report.{report_text, json_text}
@@ -76,7 +80,8 @@ pub record AnswersSolve (solve : Solve) (papers : Papers) (output : Output) : Ty
 abbrev pub IsAuditText : (is_mended is_anew : Bool) (test prices text : List ℕ) (status : Status) → Type 0
 IsAuditText true is_anew test prices text status = IsMended test prices text status
 IsAuditText false true test prices text status = IsAnew test prices text status
-IsAuditText false false test prices text status = IsAudited test prices text status
+IsAuditText false false test prices text status =
+    (said : Kind) × (saved : ℕ) × IsAudited test prices text status said saved
 
 -- and its faults
 abbrev pub IsAuditFault : (is_mended is_anew : Bool) (test prices : List ℕ) (limit : ℕ) → Fault → Type 0
@@ -84,10 +89,31 @@ IsAuditFault true is_anew test prices limit fault = IsFirstMendedFault test pric
 IsAuditFault false true test prices limit fault = IsFirstAnewFault test prices limit fault
 IsAuditFault false false test prices limit fault = IsFirstAuditFault test prices limit fault
 
-pub record AnswersAudit (audit : Audit) (papers : Papers) (output : Output) : Type 0 where
-  pub test_name : papers.test.name.now ≡ audit.test.now
+-- what `audit` prints of one file
+pub record AnswersOneAudit (audit : Audit) (name : List ℕ) (papers : Papers) (output : Output) : Type 0 where
+  pub test_name : papers.test.name.now ≡ name
   pub prices_name : papers.prices.name.now ≡ audit.prices.now
   pub answer : IsAuditText audit.write audit.anew papers.test.bytes.items papers.prices.bytes.items (string_bytes output.text) output.status
+
+-- and of these files, in their order: each block has the name of its file, and is that of some bytes at the prices that
+-- were read, or of a fault
+pub record AnswersBlocks (audit : Audit) (files : List Source) (papers : Papers) (output : Output) : Type 0 where
+  pub prices_name : papers.prices.name.now ≡ audit.prices.now
+  pub blocks : List Block
+  pub named : are_named files blocks ≡ true
+  pub are : AreBlocks audit.anew papers.prices.bytes.items blocks
+  pub text : string_bytes output.text ≡ blocks_text audit.anew blocks
+  pub ends : output.status ≡ blocks_status blocks
+
+-- Of the only file that the words name, or of several; nothing where a test is to be written and there are several. Which
+-- files folders and lists stand for no definition says.
+pub data AnswersAudit (audit : Audit) (papers : Papers) (output : Output) : Type 0 where
+  alone : (name : List ℕ) → map string_bytes audit.files.items ≡ name ∷ [] → AnswersOneAudit audit name papers output
+      → AnswersAudit audit papers output
+  several : {files : List Source} → audit.write ≡ false → AnswersBlocks audit files papers output
+      → AnswersAudit audit papers output
+  too_many : audit.write ≡ true → string_bytes output.text ≡ [] → output.status ≡ Failure
+      → AnswersAudit audit papers output
 
 pub record AnswersCheck (check : Check) (papers : Papers) (output : Output) : Type 0 where
   pub test_name : papers.test.name.now ≡ check.test.now

@@ -26,6 +26,9 @@ pub(crate) enum Failure {
     /// A list of what tests are expected to be isn't of its form.
     #[error("{0}\n")]
     BadList(ListError),
+    /// `audit --write` was given several files.
+    #[error("error: `--write` takes one FILE\n")]
+    OneTest,
     /// The request has no answer, and a message explains the fault.
     #[error("{0}\n{1}")]
     Told(Fault, String),
@@ -38,7 +41,8 @@ impl Failure {
             | Failure::NoStack
             | Failure::NoRequest(_)
             | Failure::BadLog(_)
-            | Failure::BadList(_) => Status::Failure,
+            | Failure::BadList(_)
+            | Failure::OneTest => Status::Failure,
             Failure::NoAnswer(fault) | Failure::Told(fault, _) => Status::of_fault(*fault),
         }
     }

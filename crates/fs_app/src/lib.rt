@@ -1,13 +1,14 @@
 //! The program without its `main`: a run from the command line to the exit status, and what each command answers.
 #![tactic(auto)]
 
+mod audits;
 mod failure;
 mod program;
 mod progress;
 mod states;
 mod telling;
 
-pub use fs_app_audit::{run_anew, run_audit, run_mended};
+pub use fs_app_audit::{Audited, run_anew, run_audit, run_mended};
 pub use fs_app_check::{Checked, run_check};
 pub use fs_app_files::{Kinds, ListError, Row, kind_by, kinds_of, read_rows, test_name};
 pub use fs_app_io::{Output, Status, read_bytes, write_text};

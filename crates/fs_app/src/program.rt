@@ -1,6 +1,6 @@
 //! A run of the program: from the words of its command line to what it prints and its exit status.
 
-ghost use Rattle.std.specs.Prelude.{◌≡◌, ◌≤◌, ℕ, List, [], IfOk, IfErr, IsSome, false, is_some, map, string_bytes};
+ghost use Rattle.std.specs.Prelude.{◌≡◌, ℕ, List, [], IfOk, IfErr, IsSome, false, is_some, map, string_bytes};
 ghost use Rattle.std.specs.Arc.{arc_value};
 ghost use Rattle.std.specs.Option.{option_copied};
 ghost use Rattle.fs_app_io.specs.declared.status.Status.TheVariants.{Success, Denied, Failure as Failed};
@@ -11,18 +11,18 @@ ghost use Rattle.fs_app_solve.specs.Found.{IsFound, Prints, lines_of};
 ghost use Rattle.fs_app_check.specs.Check.{IsChecked, AreOneVerdict, IsFirstCheckFault};
 ghost use Rattle.fs_app_test.specs.Report.{report_text, json_text};
 ghost use Rattle.fs_app_test.specs.Status.{report_status};
-ghost use Rattle.fs_app.specs.Answers.{IsSolvedAndTold, IsSolvedIn, offered, in_form, IsAuditFault, IsAuditText, Answers, AnswersTest, AnswersPlace};
-ghost use Rattle.fs_app.specs.Answers.{AnswersLines, AnswersOrder, AnswersSolve, AnswersAudit, AnswersCheck};
+ghost use Rattle.fs_app.specs.Answers.{IsSolvedAndTold, IsSolvedIn, offered, in_form, Answers, AnswersTest, AnswersPlace};
+ghost use Rattle.fs_app.specs.Answers.{AnswersLines, AnswersOrder, AnswersSolve, AnswersCheck};
 
+use crate::audits::answer_audit;
 use crate::failure::Failure;
 use crate::progress::Progress;
 use crate::states::{answer_log, answer_states};
 use crate::telling::{answer_why, is_yes, order_why, solve_why, tests_why, with_below};
 use clap::error::ErrorKind;
-use fs_app_audit::{run_anew, run_audit, run_mended};
 use fs_app_check::{Checked, run_check};
 use fs_app_command_line::{
-    Audit, Check, Expectations, MOST_NODES, MOST_WORKERS, Order, Place, Request, Solve, Task, Test,
+    Check, Expectations, MOST_NODES, MOST_WORKERS, Order, Place, Request, Solve, Task, Test,
     completion_script, read_request,
 };
 use fs_app_error_messages::shown_name;
@@ -238,7 +238,7 @@ fn answer<'a, R: Files + Input + Eprint + AllocGlobal + Clock + Threads + Wait +
         Task::Place(place) => answer_place(rt, place, papers),
         Task::Order(order) => answer_order(rt, order, papers),
         Task::Solve(solve) => answer_solve(rt, solve, voice, papers),
-        Task::Audit(audit) => answer_audit(rt, audit, papers),
+        Task::Audit(audit) => answer_audit(rt, audit, voice, papers),
         Task::Check(check) => answer_check(rt, check, papers),
         Task::Completions(shell) => Ok(Output {
             text: completion_script(rt.alloc(), *shell)?,
@@ -303,7 +303,7 @@ fn denied(output: Output) -> Output
 }
 
 /// No output, with status 2.
-fn refused(alloc: Global) -> Output
+pub(crate) fn refused(alloc: Global) -> Output
     ensures text { string_bytes result.text ≡ [] }
     ensures status { result.status ≡ Failed }
 {
@@ -579,45 +579,6 @@ fn found<R: Eprint + AllocGlobal + Clock + Threads + Wait + Sync>(
         return run_solve_alone(rt.alloc(), test, prices, limit, progress);
     }
     run_solve(rt, rt.alloc(), test, prices, workers, limit, progress)
-}
-
-fn answer_audit<'a, R: Files + Input + AllocGlobal>(
-    rt: &R,
-    audit: &'a Audit<'a>,
-    papers: &mut Papers<'a>,
-) -> Result<Output, Fault>
-    ensures { IfOk result (AnswersAudit audit.now papers.new) }
-{
-    papers.read_test(rt, audit.test)?;
-    papers.read_prices(rt, audit.prices)?;
-    // the command line has no other numbers; here it is said once more for the proof
-    let limit = audit.nodes.clamp(1, MOST_NODES) as usize;
-    audited(rt.alloc(), papers, audit.write, audit.anew, limit)
-}
-
-/// What is said of the FENCEs of the test that was read, in place or anew, or that test mended.
-fn audited(
-    alloc: Global,
-    papers: &Papers<'_>,
-    is_mended: bool,
-    is_anew: bool,
-    limit: usize,
-) -> Result<Output, Fault>
-    requires least { 1 ≤ limit }
-    requires most { limit ≤ 1000000 }
-    ensures answer { IfOk result (λ output. IsAuditText is_mended is_anew papers.now.test.bytes.items
-        papers.now.prices.bytes.items (string_bytes output.text) output.status) }
-    ensures fault { IfErr result
-        (IsAuditFault is_mended is_anew papers.now.test.bytes.items papers.now.prices.bytes.items limit) }
-{
-    let (test, prices) = (&papers.test.bytes, &papers.prices.bytes);
-    if is_mended {
-        run_mended(alloc, test, prices, limit)
-    } else if is_anew {
-        run_anew(alloc, test, prices, limit)
-    } else {
-        run_audit(alloc, test, prices, limit)
-    }
 }
 
 fn answer_check<'a, R: Files + Input + AllocGlobal>(

@@ -9,5 +9,6 @@ pub mod Offered
 pub mod Followed
 pub mod Weaker
 pub mod Answered
+pub mod Blocked
 pub mod Needed
 pub mod Shown

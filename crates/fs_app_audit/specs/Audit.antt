@@ -1,5 +1,5 @@
 -- What `audit` answers, in place and anew, and its fault.
-use Rattle.std.specs.Prelude.{◌≡◌, ◌⊎◌, ◌==◌, ◌&&◌, ◌||◌, not, ℕ, Bool, true, false, Option, None, Some, is_none, List, [], ◌∷◌, ◌++◌, if◌then◌else◌}
+use Rattle.std.specs.Prelude.{◌≡◌, ◌⊎◌, ◌==◌, ◌-◌, ◌&&◌, ◌||◌, not, ℕ, Bool, true, false, Option, None, Some, is_none, List, [], ◌∷◌, ◌++◌, if◌then◌else◌}
 use Rattle.std.specs.List.{flat_map, enumerate_from, list_all}
 use Rattle.fs_instr.specs.declared.instr.Instr.{Instr}
 use Rattle.fs_kinds.specs.declared.fault.Fault.{Fault}
@@ -197,11 +197,23 @@ pub record IsVacuousAudit (test prices text : List ℕ) (status : Status) : Type
   pub shown : text ≡ vacuous_line (written_cost (offers_in_place table own.codes)) why
   pub ends : status ≡ ending.Vacuous
 
--- what is printed, by what the test is as it is written
-pub data IsAudited (test prices text : List ℕ) (status : Status) : Type 0 where
-  of_forbidden : IsInPlace test prices text status → IsAudited test prices text status
-  of_vacuous : IsVacuousAudit test prices text status → IsAudited test prices text status
-  of_allowed : (anew : IsAnew test prices text status) → anew.findings.kind ≡ verdict.Allowed → IsAudited test prices text status
+-- how much less the fences cost that are advised in place
+abbrev pub saved_in_place : Findings → List Entry → ℕ
+saved_in_place f p =
+    written_cost (offers_in_place f.prices f.test.codes) - offers.cost (offers_in_place f.prices f.test.codes) p
+
+-- what is printed, by what the test is as it is written, and how much can be saved in place
+pub data IsAudited (test prices text : List ℕ) (status : Status) (said : Kind) (saved : ℕ) : Type 0 where
+  of_forbidden : (in_place : IsInPlace test prices text status) → said ≡ verdict.Forbidden
+      → saved ≡ saved_in_place in_place.findings in_place.advised → IsAudited test prices text status said saved
+  of_vacuous : IsVacuousAudit test prices text status → said ≡ verdict.Vacuous → saved ≡ 0
+      → IsAudited test prices text status said saved
+  of_allowed : (anew : IsAnew test prices text status) → anew.findings.kind ≡ verdict.Allowed
+      → said ≡ verdict.Allowed → saved ≡ 0 → IsAudited test prices text status said saved
+
+-- what `--anew` prints, and what the test is as it is written
+abbrev pub IsAuditedAnew : (test prices text : List ℕ) → Status → (said : Kind) → Type 0
+IsAuditedAnew test prices text status said = (anew : IsAnew test prices text status) × (said ≡ anew.findings.kind)
 
 -- ---- the fault
 

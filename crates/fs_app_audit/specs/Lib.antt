@@ -4,5 +4,6 @@ pub mod Advice
 pub mod Report
 pub mod InPlace
 pub mod Audit
+pub mod Blocks
 pub mod Priced
 pub mod inner

@@ -11,8 +11,8 @@ ghost use Rattle.fs_model.specs.Witness.{Witness as Shown};
 ghost use Rattle.fs_litmus.specs.Reads.{Reads};
 ghost use Rattle.fs_app_place_order.specs.Place.{ArePricesOf};
 ghost use Rattle.fs_app_test.specs.SaidVerdicts.{IsTestedAs, witness_in};
-ghost use Rattle.fs_app_audit.specs.Audit.{IsAnew, IsAudited, IsInPlace, IsMended, audit_text, fenced_text};
-ghost use Rattle.fs_app_audit.specs.Audit.{in_place_text};
+ghost use Rattle.fs_app_audit.specs.Audit.{IsAudited, IsAuditedAnew, IsMended, audit_text, fenced_text};
+ghost use Rattle.fs_app_audit.specs.Audit.{in_place_text, saved_in_place};
 ghost use Rattle.fs_app_audit.specs.Audit.{IsFirstAnewFault, IsFirstAuditFault, IsFirstMendedFault};
 ghost use Rattle.fs_app_audit.specs.InPlace.{in_place_status, offers_in_place, vacuous_line, written_cost};
 ghost use Rattle.fs_app_audit.specs.Report.{audit_status};
@@ -31,6 +31,16 @@ use fs_litmus::{Test, write_fenced};
 use std::alloc::{AllocError, Global};
 use std::sync::Arc;
 
+/// What is printed of a test, and what is counted of it beside others.
+#[derive(Drop)]
+pub struct Audited {
+    pub output: Output,
+    /// What it is as it is written.
+    pub kind: Kind,
+    /// How much less the fences cost that are advised in place.
+    pub saved: u128,
+}
+
 /// What `audit` prints in place, for a test file and a file of prices, of a test that is forbidden as it is written. In
 /// the places of its FENCEs that order memory those fences are found that rule the outcome out at the least cost; there
 /// may stand none, the FENCE that is written, and each kind with a price that orders less. Of several cheapest ones
@@ -44,11 +54,11 @@ use std::sync::Arc;
 ///
 /// The faults are those of `run_anew`, and in place those of the search of the test in which FENCEs order no memory.
 /// The cost is that of `run_anew`, of reading the test once more, and of the search in place.
-pub fn run_audit(alloc: Global, test: &[u8], prices: &[u8], limit: usize) -> Result<Output, Fault>
+pub fn run_audit(alloc: Global, test: &[u8], prices: &[u8], limit: usize) -> Result<Audited, Fault>
     requires least { 1 ≤ limit }
     requires most { limit ≤ 1000000 }
-    ensures answer { IfOk result (λ output.
-        IsAudited test.now prices.now (string_bytes output.text) output.status) }
+    ensures answer { IfOk result (λ made.
+        IsAudited test.now prices.now (string_bytes made.output.text) made.output.status made.kind made.saved) }
     ensures fault { IfErr result (IsFirstAuditFault test.now prices.now limit) }
 {
     let table = read_prices(alloc, prices)?;
@@ -65,14 +75,14 @@ fn answer(
     own: Arc<Test>,
     said: Said,
     limit: usize,
-) -> Result<Output, Fault>
+) -> Result<Audited, Fault>
     requires reads { Reads bytes.now (arc_value own) }
     requires test { IsTest (arc_value own) }
     requires tested { IsTestedAs (arc_value own) said.kind (string_bytes said.why) (witness_in said.witness) }
     requires least { 1 ≤ limit }
     requires most { limit ≤ 1000000 }
-    ensures answer { IfOk result (λ output. (file : Items ℕ) → ArePricesOf file prices
-        → IsAudited bytes.now file (string_bytes output.text) output.status) }
+    ensures answer { IfOk result (λ made. (file : Items ℕ) → ArePricesOf file prices
+        → IsAudited bytes.now file (string_bytes made.output.text) made.output.status made.kind made.saved) }
     ensures fault { IfErr result (λ f. (file : Items ℕ) → ArePricesOf file prices
         → IsFirstAuditFault bytes.now file limit f) }
 {
@@ -91,15 +101,15 @@ fn answer_in_place(
     prices: Prices,
     own: Arc<Test>,
     limit: usize,
-) -> Result<Output, Fault>
+) -> Result<Audited, Fault>
     requires reads { Reads bytes.now (arc_value own) }
     requires test { IsTest (arc_value own) }
     requires tested { (why : Items ℕ) × (witness : Option Shown)
         × IsTestedAs (arc_value own) Kind.Forbidden why witness }
     requires least { 1 ≤ limit }
     requires most { limit ≤ 1000000 }
-    ensures answer { IfOk result (λ output. (file : Items ℕ) → ArePricesOf file prices
-        → IsInPlace bytes.now file (string_bytes output.text) output.status) }
+    ensures answer { IfOk result (λ made. (file : Items ℕ) → ArePricesOf file prices
+        → IsAudited bytes.now file (string_bytes made.output.text) made.output.status made.kind made.saved) }
     ensures fault { IfErr result (λ f. (file : Items ℕ) → ArePricesOf file prices
         → IsFirstAuditFault bytes.now file limit f) }
 {
@@ -117,14 +127,16 @@ fn output_in_place(
     alloc: Global,
     found: &Findings,
     in_place: &InPlace,
-) -> Result<Output, AllocError>
+) -> Result<Audited, AllocError>
     requires sound { IsSound found.now }
     requires offers { in_place.now.offers
         ≡ offers_in_place (findings_of found.now).prices (findings_of found.now).test.codes }
-    ensures text { IfOk result (λ output. string_bytes output.text
+    ensures text { IfOk result (λ made. string_bytes made.output.text
         ≡ in_place_text (findings_of found.now) in_place.now.advised) }
-    ensures status { IfOk result (λ output. output.status
+    ensures status { IfOk result (λ made. made.output.status
         ≡ in_place_status (findings_of found.now).prices (findings_of found.now).test.codes in_place.now.advised) }
+    ensures kind { IfOk result (λ made. made.kind ≡ Kind.Forbidden) }
+    ensures saved { IfOk result (λ made. made.saved ≡ saved_in_place (findings_of found.now) in_place.now.advised) }
 {
     let prices = &found.question.prices;
     let codes = found.written.test.codes.as_slice();
@@ -134,25 +146,33 @@ fn output_in_place(
     let mut text = costs_line(alloc, written, cost, prices, found.best.as_ref())?;
     let below = lines_in_place(alloc, prices, &found.lines, codes, advised)?;
     text.push_str(below.as_str())?;
-    Ok(Output {
-        text,
-        status: in_place_status(prices, codes, advised),
+    let status = in_place_status(prices, codes, advised);
+    Ok(Audited {
+        output: Output { text, status },
+        kind: Kind::Forbidden,
+        saved: written.saturating_sub(u128::from(cost)),
     })
 }
 
 /// The answer to a test that is vacuous, for this reason.
-fn answer_vacuous(alloc: Global, prices: &Prices, own: &Test, why: &str) -> Result<Output, Fault>
+fn answer_vacuous(alloc: Global, prices: &Prices, own: &Test, why: &str) -> Result<Audited, Fault>
     requires { IsBounded own.now }
-    ensures text { IfOk result (λ output. string_bytes output.text
+    ensures text { IfOk result (λ made. string_bytes made.output.text
         ≡ vacuous_line (written_cost (offers_in_place prices.now own.now.codes)) why.now) }
-    ensures status { IfOk result (λ output. output.status ≡ Status.Vacuous) }
+    ensures status { IfOk result (λ made. made.output.status ≡ Status.Vacuous) }
+    ensures kind { IfOk result (λ made. made.kind ≡ Kind.Vacuous) }
+    ensures saved { IfOk result (λ made. made.saved ≡ 0) }
     ensures err { IsOkUnless result Fault.Memory }
 {
     let offers = offers_in_place(alloc, prices, own.codes.as_slice())?;
     let text = vacuous_line(alloc, written_cost(offers.as_slice()), why)?;
-    Ok(Output {
-        text,
-        status: Status::Vacuous,
+    Ok(Audited {
+        output: Output {
+            text,
+            status: Status::Vacuous,
+        },
+        kind: Kind::Vacuous,
+        saved: 0,
     })
 }
 
@@ -163,16 +183,15 @@ fn answer_anew(
     prices: Prices,
     own: Arc<Test>,
     limit: usize,
-) -> Result<Output, Fault>
+) -> Result<Audited, Fault>
     requires reads { Reads bytes.now (arc_value own) }
     requires test { IsTest (arc_value own) }
     requires tested { (why : Items ℕ) × (witness : Option Shown)
         × IsTestedAs (arc_value own) Kind.Allowed why witness }
     requires least { 1 ≤ limit }
     requires most { limit ≤ 1000000 }
-    ensures answer { IfOk result (λ output. (file : Items ℕ) → ArePricesOf file prices
-        → (anew : IsAnew bytes.now file (string_bytes output.text) output.status)
-        × (anew.findings.kind ≡ Kind.Allowed)) }
+    ensures answer { IfOk result (λ made. (file : Items ℕ) → ArePricesOf file prices
+        → IsAudited bytes.now file (string_bytes made.output.text) made.output.status made.kind made.saved) }
     ensures fault { IfErr result (λ f. (file : Items ℕ) → ArePricesOf file prices
         → IsFirstAnewFault bytes.now file limit f) }
 {
@@ -181,10 +200,24 @@ fn answer_anew(
         kind: Kind::Allowed,
     };
     let found = find_judged(alloc, Purpose::Advise, bytes, prices, written, limit)?;
-    let text = audit_text(alloc, &found)?;
-    Ok(Output {
-        text,
-        status: status_of(&found),
+    Ok(found_anew(alloc, &found)?)
+}
+
+/// What is printed of what was found anew.
+fn found_anew(alloc: Global, found: &Findings) -> Result<Audited, AllocError>
+    requires { IsSound found.now }
+    ensures text { IfOk result (λ made. string_bytes made.output.text ≡ audit_text (findings_of found.now)) }
+    ensures status { IfOk result (λ made. made.output.status
+        ≡ audit_status found.now.written.kind (findings_of found.now).codes found.now.best) }
+    ensures kind { IfOk result (λ made. made.kind ≡ found.now.written.kind) }
+    ensures saved { IfOk result (λ made. made.saved ≡ 0) }
+{
+    let text = audit_text(alloc, found)?;
+    let status = status_of(found);
+    Ok(Audited {
+        output: Output { text, status },
+        kind: found.written.kind,
+        saved: 0,
     })
 }
 
@@ -201,19 +234,16 @@ fn answer_anew(
 /// `judge_test` of fs_app_test; those of a search for the cheapest fences with this limit of nodes. `Memory` may come
 /// in place of any answer. The cost is that of reading the test four times, of judging it twice, of the search, and of
 /// each hart the fourth power of its code's length.
-pub fn run_anew(alloc: Global, test: &[u8], prices: &[u8], limit: usize) -> Result<Output, Fault>
+pub fn run_anew(alloc: Global, test: &[u8], prices: &[u8], limit: usize) -> Result<Audited, Fault>
     requires least { 1 ≤ limit }
     requires most { limit ≤ 1000000 }
-    ensures answer { IfOk result (λ output.
-        IsAnew test.now prices.now (string_bytes output.text) output.status) }
+    ensures answer { IfOk result (λ made.
+        IsAuditedAnew test.now prices.now (string_bytes made.output.text) made.output.status made.kind) }
+    ensures saved { IfOk result (λ made. made.saved ≡ 0) }
     ensures fault { IfErr result (IsFirstAnewFault test.now prices.now limit) }
 {
     let found = find(alloc, Purpose::Advise, test, prices, limit)?;
-    let text = audit_text(alloc, &found)?;
-    Ok(Output {
-        text,
-        status: status_of(&found),
-    })
+    Ok(found_anew(alloc, &found)?)
 }
 
 /// A test that has fences which rule the outcome out, in the printed form of herd7's format; nothing is printed where

@@ -8,6 +8,7 @@ mod advice;
 mod advice_in_place;
 mod asked;
 mod audit;
+mod blocks;
 mod easing;
 mod emptying;
 mod findings;
@@ -23,7 +24,8 @@ mod standing;
 
 pub use advice::Advice;
 pub use asked::Purpose;
-pub use audit::{run_anew, run_audit, run_mended};
+pub use audit::{Audited, run_anew, run_audit, run_mended};
+pub use blocks::{Block, Found, audit_file, blocks_of, blocks_output};
 pub use easing::eased;
 pub use emptying::emptied;
 pub use laws::{advised_fences_are_needed, lines_can_be_followed};

@@ -1,5 +1,6 @@
 //! The command line: its words, and what each command's help says.
 use crate::completions::{Shell, script};
+use clap::error::ErrorKind;
 use clap::{Arg, ArgAction, ArgMatches, Command, Error, value_parser};
 use std::alloc::{AllocError, Global};
 
@@ -233,6 +234,14 @@ Where the outcome is vacuous there are no lines.
 
 With --write the test is printed with the cheapest fences in place of its own.
 FENCEs with i or o among their letters stay as they are.
+
+Of several files, also those of a folder or a list as `test` takes them, each has its name
+above what is said of it, and an empty line below. A last line counts them:
+
+  3 tests: 1 forbidden, 1 allowed, 1 vacuous; 10 could be saved in place
+
+There a fault stands in the place of a file's lines, and the status is 1 where it is of
+some file, else 2, else 4, else 0. --write takes one file.
 
 Exit status:
   0  each FENCE is needed
@@ -494,12 +503,14 @@ pub struct Solve<'a> {
 /// What `audit` was asked for.
 #[derive(Drop)]
 pub struct Audit<'a> {
-    pub test: &'a str,
+    pub files: Vec<String>,
     pub prices: &'a str,
     /// Whether the FENCEs are to be compared with fences that are found anew.
     pub anew: bool,
     /// Whether the mended test is to be printed.
     pub write: bool,
+    /// How many threads judge files: from 1 to 16.
+    pub jobs: u8,
     /// How many nodes the search may make: from 1 to 1,000,000.
     pub nodes: u32,
 }
@@ -518,9 +529,31 @@ pub struct Check<'a> {
 
 /// The request that the words make, the program's name first. An error holds the text for the user, and help and the
 /// version are such errors.
+///
+/// `audit` takes its prices behind its files, also where an option stands between one file and them.
 pub fn read_request<'a>(alloc: Global, words: &'a [String]) -> Result<Request<'a>, Error> {
-    let matches = whole_command(alloc)?.try_get_matches_from(words)?;
+    let matches = match whole_command(alloc, true)?.try_get_matches_from(words) {
+        Ok(matches) => matches,
+        Err(error) => matches_of_one(alloc, words, error)?,
+    };
     Ok(request_of(alloc, &matches)?)
+}
+
+/// The same where `audit` takes one file, for words that aren't understood otherwise. The error is the first one, but
+/// where it says that words are missing.
+fn matches_of_one<'a>(
+    alloc: Global,
+    words: &'a [String],
+    error: Error,
+) -> Result<ArgMatches<'a>, Error> {
+    if !error.use_stderr() {
+        return Err(error);
+    }
+    match whole_command(alloc, false)?.try_get_matches_from(words) {
+        Ok(matches) => Ok(matches),
+        Err(other) if matches!(error.kind(), ErrorKind::MissingRequiredArgument) => Err(other),
+        Err(_) => Err(error),
+    }
 }
 
 fn request_of<'a>(alloc: Global, matches: &ArgMatches<'a>) -> Result<Request<'a>, AllocError> {
@@ -539,7 +572,7 @@ fn task_of<'a>(alloc: Global, name: &str, found: &ArgMatches<'a>) -> Result<Task
         "states" => Ok(Task::States(states_of(alloc, found)?)),
         "order" => Ok(Task::Order(order_of(alloc, found)?)),
         "solve" => Ok(Task::Solve(solve_of(found))),
-        "audit" => Ok(Task::Audit(audit_of(found))),
+        "audit" => Ok(Task::Audit(audit_of(alloc, found)?)),
         "check" => Ok(Task::Check(check_of(found))),
         "completions" => Ok(Task::Completions(shell_of(found))),
         _ => Ok(Task::Place(place_of(alloc, found)?)),
@@ -633,14 +666,15 @@ fn solve_of<'a>(found: &ArgMatches<'a>) -> Solve<'a> {
     }
 }
 
-fn audit_of<'a>(found: &ArgMatches<'a>) -> Audit<'a> {
-    Audit {
-        test: found.get_str("FILE").unwrap_or(""),
+fn audit_of<'a>(alloc: Global, found: &ArgMatches<'a>) -> Result<Audit<'a>, AllocError> {
+    Ok(Audit {
+        files: words_of(alloc, found, "FILE")?,
         prices: found.get_str("PRICES").unwrap_or(""),
         anew: found.get_flag("anew"),
         write: found.get_flag("write"),
+        jobs: found.get_one::<u8>("jobs").unwrap_or(ONE_WORKER),
         nodes: found.get_one::<u32>("nodes").unwrap_or(MOST_NODES),
-    }
+    })
 }
 
 fn check_of<'a>(found: &ArgMatches<'a>) -> Check<'a> {
@@ -674,7 +708,8 @@ fn words_of(alloc: Global, found: &ArgMatches<'_>, name: &str) -> Result<Vec<Str
     Ok(words)
 }
 
-fn whole_command<'a>(alloc: Global) -> Result<Command<'a>, AllocError> {
+/// The program; `audit` takes one file or any number.
+fn whole_command<'a>(alloc: Global, audits_many: bool) -> Result<Command<'a>, AllocError> {
     let program = Command::new(alloc, "rvfence")
         .version(VERSION)
         .about("Fences for RISC-V litmus tests under RVWMO")
@@ -682,7 +717,7 @@ fn whole_command<'a>(alloc: Global) -> Result<Command<'a>, AllocError> {
         .subcommand_required(true);
     let program = with_command(Ok(program), test_command(alloc));
     let program = with_command(program, solve_command(alloc));
-    let program = with_command(program, audit_command(alloc));
+    let program = with_command(program, audit_command(alloc, audits_many));
     let program = with_command(program, states_command(alloc));
     let program = with_command(program, place_command(alloc));
     let program = with_command(program, order_command(alloc));
@@ -775,15 +810,21 @@ fn solve_command<'a>(alloc: Global) -> Result<Command<'a>, AllocError> {
     with_voice(alloc, command)
 }
 
-fn audit_command<'a>(alloc: Global) -> Result<Command<'a>, AllocError> {
+fn audit_command<'a>(alloc: Global, audits_many: bool) -> Result<Command<'a>, AllocError> {
     let command = Command::new(alloc, "audit")
         .about(AUDIT_ABOUT)
         .after_help(AUDIT_HELP);
-    let command = with_argument(Ok(command), required(alloc, "FILE", FILE_HELP));
+    let taken = if audits_many {
+        files(alloc, FILES_HELP)
+    } else {
+        required(alloc, "FILE", FILE_HELP)
+    };
+    let command = with_argument(Ok(command), taken);
     let command = with_argument(command, required(alloc, "PRICES", PRICES_HELP));
     let command = with_argument(command, flag(alloc, "anew", ANEW_HELP));
     let write = flag(alloc, "write", WRITE_HELP).conflicts_with("anew")?;
     let command = with_argument(command, write);
+    let command = with_argument(command, threads(alloc, "jobs", JOBS_HELP));
     let command = with_argument(command, nodes(alloc, NODES_HELP));
     with_voice(alloc, command)
 }
@@ -811,7 +852,7 @@ fn completions_command<'a>(alloc: Global) -> Result<Command<'a>, AllocError> {
 
 /// The script by which the shell completes the words of a command line. The error is want of memory.
 pub fn completion_script(alloc: Global, shell: Shell) -> Result<String, AllocError> {
-    script(alloc, &whole_command(alloc)?, shell)
+    script(alloc, &whole_command(alloc, true)?, shell)
 }
 
 /// A word that must be there.

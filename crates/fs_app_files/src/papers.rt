@@ -258,9 +258,9 @@ fn unread_line(alloc: Global, name: &str, why: Missing) -> Result<String, AllocE
     explain_unread(alloc, name, why.as_str())
 }
 
-/// The message of a file of `test` that isn't a test, or wasn't read. None where it is one, or there is no memory for
-/// the message. A file that is one is read a second time by `test_file`.
-pub(crate) fn message_of_file(
+/// The message of a file beside others that isn't a test, or wasn't read. None where it is one, or there is no memory
+/// for the message. A file that is one is read once more where it is judged.
+pub fn message_of_file(
     alloc: Global,
     name: &str,
     file: &Result<Vec<u8>, Missing>,

@@ -1,9 +1,9 @@
 use Rattle.std.proofs.Common.{string_bytes, subst}
 use Rattle.std.specs.Arc.{arc_value}
-use Rattle.std.proofs.lemmas.Result.{IfErr-weaker, IfOk-weaker}
+use Rattle.std.proofs.lemmas.Result.{IfErr-weaker}
 use Rattle.fs_app_test.specs.declared.said.Kind.{Kind}
 use Rattle.fs_app_test.specs.SaidVerdicts.{IsTestedAs, witness_in}
-use Rattle.fs_app_audit.specs.Audit.{of_forbidden, of_allowed, of_anew}
+use Rattle.fs_app_audit.specs.Audit.{of_anew}
 use Rattle.fs_app_audit.proofs.Answered.{memory-audited, never_faulty}
 use Rattle.fs_app_audit.proofs.audit.answer.Goals as goal
 
@@ -15,10 +15,6 @@ answer_in_place-requires-clause-tested c = (
       c.requires.tested,
 )
 
-pub returns-in-Forbidden-clause-answer : goal.returns-in-Forbidden-clause-answer
-returns-in-Forbidden-clause-answer c =
-    IfOk-weaker c.answer_in_place.result _ _ (λ output h file priced. of_forbidden (h file priced)) c.answer_in_place.ensures.answer
-
 pub answer_anew-requires-clause-tested : goal.answer_anew-requires-clause-tested
 answer_anew-requires-clause-tested c = (
   string_bytes c.args.said.why,
@@ -26,10 +22,6 @@ answer_anew-requires-clause-tested c = (
   subst (λ (k : Kind). IsTestedAs (arc_value c.args.own) k (string_bytes c.args.said.why) (witness_in c.args.said.witness)) c.in-Allowed.is
       c.requires.tested,
 )
-
-pub returns-in-Allowed-clause-answer : goal.returns-in-Allowed-clause-answer
-returns-in-Allowed-clause-answer c =
-    IfOk-weaker c.answer_anew.result _ _ (λ output h file priced. (let found = h file priced in of_allowed found.0 found.1)) c.answer_anew.ensures.answer
 
 pub returns-in-Allowed-clause-fault : goal.returns-in-Allowed-clause-fault
 returns-in-Allowed-clause-fault c =

@@ -9,7 +9,7 @@ use Rattle.fs_model_in_place.specs.InPlace.{emptied}
 use Rattle.fs_app_place_order.proofs.Faults.{IfErr-handed}
 use Rattle.fs_app_test.specs.declared.said.Kind.TheVariants.{Forbidden}
 use Rattle.fs_app_test.specs.SaidVerdicts.{IsForbidden}
-use Rattle.fs_app_audit.specs.Audit.{IsTested, of_anew, of_memory}
+use Rattle.fs_app_audit.specs.Audit.{IsTested, of_anew, of_forbidden, of_memory}
 use Rattle.fs_app_audit.specs.InPlace.{offers_in_place}
 use Rattle.fs_app_audit.specs.inner.Made.{findings_of}
 use Rattle.fs_app_audit.proofs.Answered.{fault-in-place, forbidden}
@@ -55,7 +55,8 @@ returns-clause-answer c = λ file priced. (
     let is = c.deref.ensures ∙ sym c.in_ok-found.ensures.own in
     let offers = ap (λ (t : Test). offers_in_place c.args.prices t.codes) is
     ∙ ap (λ (table : PriceTable). offers_in_place table f.test.codes) (sym c.in_ok-found.ensures.prices) in
-    record {
+    of_forbidden
+    (record {
       findings = f;
       found = c.in_ok-found.ensures.found file priced;
       forbidden = c.in_ok-found.ensures.kind;
@@ -65,5 +66,7 @@ returns-clause-answer c = λ file priced. (
       cheapest = subst (λ (os : Offers). IsCheapest empty os advised) offers c.in_ok-in_place.ensures.cheapest;
       shown = c.in_ok-output_in_place.ensures.text;
       ends = c.in_ok-output_in_place.ensures.status;
-    }
+    })
+    c.in_ok-output_in_place.ensures.kind
+    c.in_ok-output_in_place.ensures.saved
     )

@@ -1,0 +1,284 @@
+//! What `audit` answers, of one file or of several, one after the other or side by side.
+
+ghost use Rattle.std.specs.Prelude.{◌≡◌, ◌≤◌, ◌∷◌, [], IfOk, IfErr, IfSome, map, string_bytes};
+ghost use Rattle.fs_app.specs.Answers.{AnswersAudit, AnswersBlocks, AnswersOneAudit, IsAuditFault, IsAuditText};
+
+use crate::failure::Failure;
+use crate::program::{Voice, refused, report};
+use fs_app_audit::{Found, audit_file, blocks_of, blocks_output, run_anew, run_audit, run_mended};
+use fs_app_command_line::{Audit, MOST_NODES};
+use fs_app_files::{Papers, message_of_file};
+use fs_app_io::{Missing, Output, Source, sources, tell};
+use fs_kinds::{Fault, read_prices};
+use std::alloc::{AllocError, Global};
+use std::rt::Files;
+use std::thread;
+use std::thread::Threads;
+
+/// So many files each thread judges before all go on to the next ones.
+const AT_ONCE: usize = 4;
+
+/// A file that was read: its name, and its bytes or why it has none.
+#[derive(Drop)]
+struct Taken<'a> {
+    name: &'a str,
+    file: Result<Vec<u8>, Missing>,
+}
+
+/// What is asked of each file.
+#[derive(Clone, Copy)]
+struct Asked<'a> {
+    prices: &'a [u8],
+    is_anew: bool,
+    limit: usize,
+    /// Whether messages are wanted.
+    explains: bool,
+}
+
+/// What was found of files, in their order, and messages of those that aren't tests, or weren't read.
+#[derive(Drop)]
+struct Batch<'a> {
+    files: Vec<Found<'a>>,
+    messages: Vec<String>,
+}
+
+/// What `audit` answers of its files. Where one word names one file its fault ends the run.
+pub(crate) fn answer_audit<'a, R: Files + Input + Eprint + AllocGlobal + Threads + Sync>(
+    rt: &R,
+    audit: &'a Audit<'a>,
+    voice: Voice,
+    papers: &mut Papers<'a>,
+) -> Result<Output, Fault>
+    ensures { IfOk result (AnswersAudit audit.now papers.new) }
+{
+    let files = sources(rt, &audit.files)?;
+    if let Some(word) = only(audit.files.as_slice()) {
+        if is_alone(word, &files) {
+            return answer_alone(rt, audit, word, papers);
+        }
+    }
+    if audit.write {
+        report(rt, &Failure::OneTest);
+        return Ok(refused(rt.alloc()));
+    }
+    answer_files(rt, audit, &files, voice, papers)
+}
+
+/// The only word, if there is one.
+fn only(words: &[String]) -> Option<&str>
+    ensures { IfSome result (λ word. map string_bytes words.now ≡ word.now ∷ []) }
+{
+    match words {
+        [word] => Some(word.as_str()),
+        _ => None,
+    }
+}
+
+/// Is the word itself the only file?
+fn is_alone(word: &str, files: &[Source]) -> bool {
+    match files {
+        [file] => file.name.as_str() == word,
+        _ => false,
+    }
+}
+
+/// The limit of nodes. The command line has no other numbers; here it is said once more for the proof.
+fn limit_of(audit: &Audit<'_>) -> usize
+    ensures least { 1 ≤ result }
+    ensures most { result ≤ 1000000 }
+{
+    audit.nodes.clamp(1, MOST_NODES) as usize
+}
+
+// ---- one file
+
+/// The answer of one file.
+fn answer_alone<'a, R: Files + Input + AllocGlobal>(
+    rt: &R,
+    audit: &'a Audit<'a>,
+    word: &'a str,
+    papers: &mut Papers<'a>,
+) -> Result<Output, Fault>
+    ensures { IfOk result (AnswersOneAudit audit.now word.now papers.new) }
+{
+    papers.read_test(rt, word)?;
+    papers.read_prices(rt, audit.prices)?;
+    let limit = limit_of(audit);
+    audited(rt.alloc(), papers, audit.write, audit.anew, limit)
+}
+
+/// What is said of the FENCEs of the test that was read, in place or anew, or that test mended.
+fn audited(
+    alloc: Global,
+    papers: &Papers<'_>,
+    is_mended: bool,
+    is_anew: bool,
+    limit: usize,
+) -> Result<Output, Fault>
+    requires least { 1 ≤ limit }
+    requires most { limit ≤ 1000000 }
+    ensures answer { IfOk result (λ output. IsAuditText is_mended is_anew papers.now.test.bytes.items
+        papers.now.prices.bytes.items (string_bytes output.text) output.status) }
+    ensures fault { IfErr result
+        (IsAuditFault is_mended is_anew papers.now.test.bytes.items papers.now.prices.bytes.items limit) }
+{
+    let (test, prices) = (&papers.test.bytes, &papers.prices.bytes);
+    if is_mended {
+        run_mended(alloc, test, prices, limit)
+    } else if is_anew {
+        Ok(run_anew(alloc, test, prices, limit)?.output)
+    } else {
+        Ok(run_audit(alloc, test, prices, limit)?.output)
+    }
+}
+
+// ---- several
+
+/// The answer of several files. Messages come before it, and only where there is memory for it. A fault of the prices
+/// ends the run.
+fn answer_files<'a, R: Files + Input + Eprint + AllocGlobal + Threads + Sync>(
+    rt: &R,
+    audit: &'a Audit<'a>,
+    files: &[Source],
+    voice: Voice,
+    papers: &mut Papers<'a>,
+) -> Result<Output, Fault>
+    ensures { IfOk result (AnswersBlocks audit.now files.now papers.new) }
+{
+    papers.read_prices(rt, audit.prices)?;
+    let _table = read_prices(rt.alloc(), &papers.prices.bytes)?;
+    let asked = Asked {
+        prices: &papers.prices.bytes,
+        is_anew: audit.anew,
+        limit: limit_of(audit),
+        explains: voice.explains,
+    };
+    let batch = audit_all(rt, files, audit.jobs, asked)?;
+    let Batch {
+        files: found,
+        messages,
+    } = batch;
+    let blocks = blocks_of(rt.alloc(), files, found, &papers.prices.bytes, audit.anew)?;
+    let output = blocks_output(rt.alloc(), &blocks, audit.anew)?;
+    for message in &messages {
+        tell(rt, message);
+    }
+    Ok(output)
+}
+
+/// What is found of all files. With more than one job so many threads judge files side by side, which changes nothing
+/// of what is found: files are read here alone, in their order.
+fn audit_all<'a, R: Files + Input + AllocGlobal + Threads + Sync>(
+    rt: &R,
+    files: &[Source],
+    jobs: u8,
+    asked: Asked<'a>,
+) -> Result<Batch<'a>, Fault> {
+    let alloc = rt.alloc();
+    if jobs == 1 {
+        return audit_in_turn(rt, files, asked);
+    }
+    let mut found = Batch::new(alloc);
+    for round in files.chunks(usize::from(jobs.max(1)) * AT_ONCE) {
+        let batches = read_batches(rt, round)?;
+        let said = thread::map_vec(
+            rt,
+            batches,
+            &|batch: Vec<Taken<'_>>| { audit_batch(alloc, batch, asked) },
+        )?;
+        for batch in said {
+            found.add(batch?)?;
+        }
+    }
+    Ok(found)
+}
+
+/// One file after the other; of each no more is kept than what is found of it.
+fn audit_in_turn<'a, R: Files + Input + AllocGlobal>(
+    rt: &R,
+    files: &[Source],
+    asked: Asked<'a>,
+) -> Result<Batch<'a>, Fault> {
+    let mut found = Batch::new(rt.alloc());
+    for source in files {
+        found.audit(rt.alloc(), take(rt, source), asked)?;
+    }
+    Ok(found)
+}
+
+/// The file, read.
+fn take<'a, R: Files + Input + AllocGlobal>(rt: &R, source: &'a Source) -> Taken<'a> {
+    Taken {
+        name: source.name.as_str(),
+        file: source.read(rt),
+    }
+}
+
+/// The files, read in their order, in batches for a thread each.
+fn read_batches<'a, R: Files + Input + AllocGlobal>(
+    rt: &R,
+    files: &'a [Source],
+) -> Result<Vec<Vec<Taken<'a>>>, AllocError> {
+    let mut batches = Vec::new(rt.alloc());
+    for sources in files.chunks(AT_ONCE) {
+        let mut batch = Vec::new(rt.alloc());
+        for source in sources {
+            batch.push(take(rt, source))?;
+        }
+        batches.push(batch)?;
+    }
+    Ok(batches)
+}
+
+/// What is found of the files of a batch.
+fn audit_batch<'a>(
+    alloc: Global,
+    batch: Vec<Taken<'_>>,
+    asked: Asked<'a>,
+) -> Result<Batch<'a>, Fault> {
+    let mut found = Batch::new(alloc);
+    for taken in batch {
+        found.audit(alloc, taken, asked)?;
+    }
+    Ok(found)
+}
+
+impl<'a> Batch<'a> {
+    fn new(alloc: Global) -> Self {
+        Batch {
+            files: Vec::new(alloc),
+            messages: Vec::new(alloc),
+        }
+    }
+
+    /// Adds what is found of a file, with its message where that is wanted. Where there is no memory for a message it is
+    /// left out.
+    fn audit(&mut self, alloc: Global, taken: Taken<'_>, asked: Asked<'a>) -> Result<(), Fault> {
+        let Taken { name, file } = taken;
+        if asked.explains {
+            self.add_message(message_of_file(alloc, name, &file));
+        }
+        let file = file.map_err(|why| why.fault());
+        let limit = asked.limit.clamp(1, MOST_NODES as usize);
+        let found = audit_file(alloc, name, file, asked.prices, asked.is_anew, limit)?;
+        self.files.push(found)?;
+        Ok(())
+    }
+
+    fn add_message(&mut self, message: Option<String>) {
+        if let Some(message) = message {
+            let _ = self.messages.push(message);
+        }
+    }
+
+    /// Adds what was found of later files.
+    fn add(&mut self, later: Batch<'a>) -> Result<(), AllocError> {
+        for file in later.files {
+            self.files.push(file)?;
+        }
+        for message in later.messages {
+            self.add_message(Some(message));
+        }
+        Ok(())
+    }
+}
