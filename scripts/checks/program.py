@@ -139,13 +139,20 @@ def faults_of_chain(block, placed):
 
 
 def check_contradictions(checks, path, head, blocks, placed):
-    """Of fences it is told why they rule the outcome out: in chains that hold together, by fences of the answer."""
+    """Of fences it is told why they rule the outcome out: in chains that hold together, by fences of the answer. And
+    behind each fence stands in which of them it is needed."""
     is_told = bool(blocks) and re.match(r"Each way to the outcome has |No way to the outcome is left ", blocks[0])
     checks.expect(f"whether contradictions are told of {path}", head.startswith("fenced"), bool(is_told))
     chains = [block for block in blocks if re.match(r"(cycle|stale|not atomic) \d+", block)]
     checks.expect(f"whether a chain is told of {path}", bool(is_told) and blocks[0].startswith("Each"), bool(chains))
     for block in chains:
         checks.expect(f"what is wrong with this of {path}: {block}", [], [*faults_of_chain(block, placed)])
+    told = {block.split()[1].strip(",") for block in chains if block.startswith("cycle ")}
+    for fence, cycles in placed.items():
+        said = re.fullmatch(r": in (?:cycles? ([\d, and]*\d))?(?: and )?(?:\d+ more kinds?)?", cycles)
+        numbers = set(re.findall(r"\d+", said[1] or "") if said else [])
+        is_right = bool(said) and numbers <= told
+        checks.expect(f"{path}: whether {fence} is in cycles that are told{cycles}", True, is_right)
 
 
 def check_why(checks):
@@ -156,7 +163,8 @@ def check_why(checks):
         fences, test = fences_of(head.split("\n")), model.read(path, model.test_of)
         cases = [(fence, [it for it in fences if it != fence]) for fence in fences]
         told_of = [block for block in blocks if re.match(r"\S+ before P\d+:\d+ \(line |The outcome can be ", block)]
-        placed = {re.match(r"(\S+) before \S+ \(line (\d+),", it).groups() for it in told_of if " before P" in it[:20]}
+        named = [re.match(r"(\S+) before \S+ \(line (\d+),.*\)(.*)", it) for it in told_of if " before P" in it[:20]]
+        placed = {it.groups()[:2]: it[3] for it in named}
         check_contradictions(checks, path, head, [it for it in blocks if it not in told_of], placed)
         if head.startswith("none"):
             cases = [("all", [f"P{hart}:{at}=rw,rw" for hart, at in test.slots()])]

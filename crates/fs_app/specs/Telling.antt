@@ -10,8 +10,7 @@ use Rattle.fs_app_test.specs.declared.said.Kind.TheVariants as kind
 use Rattle.fs_app_test.specs.declared.said.Line.{Line}
 use Rattle.fs_app_test.specs.Report.{shown_name}
 use Rattle.fs_app_test.specs.SaidVerdicts.{witness_in}
-use Rattle.fs_app_why.specs.Forbidden.{IsCertifiedWhy}
-use Rattle.fs_app_why.specs.Why.{IsAllowedWhy}
+use Rattle.fs_app_why.specs.Why.{IsAllowedWhy, IsCertifiedWhy}
 
 -- this, where it is asked for; else nothing
 abbrev pub IsTold : (is_asked : Bool) → (List ℕ → Type 0) → (text : List ℕ) → Type 0

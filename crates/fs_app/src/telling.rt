@@ -6,8 +6,7 @@ ghost use Rattle.fs_app_files.specs.Judging.{AreJudged, IsJudged};
 ghost use Rattle.fs_app_solve.specs.Solve.{IsCertified};
 ghost use Rattle.fs_app_test.specs.Report.{shown_name};
 ghost use Rattle.fs_app_test.specs.SaidVerdicts.{witness_in};
-ghost use Rattle.fs_app_why.specs.Forbidden.{IsCertifiedWhy};
-ghost use Rattle.fs_app_why.specs.Why.{IsOrderWhy};
+ghost use Rattle.fs_app_why.specs.Why.{IsCertifiedWhy, IsOrderWhy};
 ghost use Rattle.fs_app.specs.Answers.{IsSolvedAndTold, IsSolvedIn};
 ghost use Rattle.fs_app.specs.Telling.{AreTold, IsBlock, IsTestTold, IsTold, is_allowed, is_yes};
 

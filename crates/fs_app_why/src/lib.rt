@@ -18,11 +18,9 @@ mod rows;
 mod table;
 mod told;
 mod trace;
-mod whole;
 mod without;
 mod words;
 
-pub use answered::why_answer;
+pub use answered::why_certified;
 pub use order::why_order;
 pub use possible::why_allowed;
-pub use whole::why_certified;
