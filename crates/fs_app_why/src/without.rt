@@ -13,7 +13,9 @@ ghost use Rattle.fs_cert_evidence.specs.WitnessFile.{KeepsWitness};
 ghost use Rattle.fs_check.specs.Ordered.{IsOrdered, execution_in};
 ghost use Rattle.fs_app_why.specs.inner.Told.{IsOfFirst, NoneShows};
 ghost use Rattle.fs_app_why.specs.Traces.{trace_text};
+ghost use Rattle.fs_region_ends.specs.declared.fences.Fence.TheVariants.{Placed};
 ghost use Rattle.fs_region_ends.specs.Kinds.{ChainKind as Kinds};
+ghost use Rattle.fs_app_why.specs.Contradictions.{fence_key, in_text};
 ghost use Rattle.fs_app_why.specs.Why.{NoWitnessShows, TellsFences, TellsFirst, TellsWithout, fence_line, head_text};
 ghost use Rattle.fs_app_why.specs.Why.{instr_at, named_text, without_heading};
 
@@ -119,6 +121,18 @@ fn named_text(
     )
 }
 
+/// In which of the kinds the fence is needed.
+fn kinds_text(
+    alloc: Global,
+    kinds: &[ChainKind],
+    slot: Slot,
+    kind: Kind,
+) -> Result<String, AllocError>
+    ensures { IfOk result (λ text. string_bytes text ≡ in_text kinds.now (fence_key (Placed slot kind))) }
+{
+    in_text(alloc, kinds, fence_key(Fence::Placed { slot, kind }))
+}
+
 /// The line of the fence, as that with `: in cycles 1 and 2` behind it.
 fn fence_line(
     alloc: Global,
@@ -131,7 +145,7 @@ fn fence_line(
     ensures { IfOk result (λ text. string_bytes text ≡ fence_line test.now lines.now kinds.now slot kind) }
 {
     let named = named_text(alloc, test, lines, slot, kind)?;
-    let cycles = in_text(alloc, kinds, fence_key(Fence::Placed { slot, kind }))?;
+    let cycles = kinds_text(alloc, kinds, slot, kind)?;
     format!(in alloc; "{}{}\n", named.as_str(), cycles.as_str())
 }
 
