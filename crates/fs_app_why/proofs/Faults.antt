@@ -2,11 +2,12 @@
 use Rattle.std.proofs.Common.{◌≡◌, ◌≢◌, ◌⊎◌, inl, inr, ℕ, List, None, Result, Ok, Err, IfErr, sym, subst}
 use Rattle.std.specs.Prelude.{IsOkUnless}
 use Rattle.fs_kinds.specs.declared.fault.Fault.{Fault}
-use Rattle.fs_kinds.specs.declared.fault.Fault.TheVariants.{BadCertificate, BadFence, Memory}
+use Rattle.fs_kinds.specs.declared.fault.Fault.TheVariants.{BadCertificate, BadFence, Memory, TooManyCandidates}
 use Rattle.fs_model.specs.declared.test.Test.{Test}
 use Rattle.fs_litmus.specs.Reads.{Reads}
 use Rattle.fs_litmus.specs.Faults.{IsBroken, IsTestFault}
 use Rattle.fs_litmus.proofs.FrontFaults.{unbroken}
+use Rattle.fs_cert_evidence.specs.CandidateFaults.{IsCandidateFault}
 use Rattle.fs_cert_evidence.specs.Certificate.{Answer, Certificate, Fenced}
 use Rattle.fs_cert_evidence.specs.CertificateFile.{IsCertificateFile}
 use Rattle.fs_app_place_order.specs.Place.{IsBadFences}
@@ -34,6 +35,11 @@ memory_or (Err f) P e = λ n. absurd (n e)
 pub memory_is : {T : Type 0} (r : Result T Fault) (P : Fault → Type 0) → P Memory → IsOkUnless r Memory → IfErr r P
 memory_is (Ok x) P is e = tt
 memory_is (Err f) P is e = subst P (sym e) is
+
+-- a fault of the test's runs is one of its candidates
+pub run_is_candidate : (t : Test) (f : Fault) → IsRunFault t f → IsCandidateFault t f
+run_is_candidate t TooManyCandidates h = absurd h.met
+run_is_candidate t f h = h
 
 -- ---- of words
 

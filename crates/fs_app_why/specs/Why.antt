@@ -11,7 +11,7 @@ use Rattle.fs_kinds.specs.Kind.{word}
 use Rattle.fs_kinds.specs.Placement.{with_kind}
 use Rattle.fs_kinds.specs.Slot.{slot_name}
 use Rattle.fs_model.specs.declared.test.Test.{Test}
-use Rattle.fs_model.specs.Allows.{no_fences, full_fences}
+use Rattle.fs_model.specs.Allows.{Allows, no_fences, full_fences}
 use Rattle.fs_model.specs.Execution.{Execution}
 use Rattle.fs_model.specs.Placed.{IsPlaced}
 use Rattle.fs_model.specs.Slots.{slots}
@@ -20,9 +20,11 @@ use Rattle.fs_model.specs.Witness.{Witness}
 use Rattle.fs_litmus.specs.Reads.{Reads}
 use Rattle.fs_litmus.specs.Faults.{IsTestFault}
 use Rattle.fs_litmus.specs.Lines.{StandIn}
+use Rattle.fs_cert_evidence.specs.CandidateFaults.{IsCandidateFault}
 use Rattle.fs_cert_evidence.specs.Certificate.{Answer, Certificate, Cycles, Fenced, NoneForbids}
 use Rattle.fs_cert_evidence.specs.CertificateFile.{IsCertificateFile}
 use Rattle.fs_cert_evidence.specs.Shown.{ShowsAs, IsShownBy}
+use Rattle.fs_cert_evidence.specs.Valid.{Forbid}
 use Rattle.fs_cert_evidence.specs.WitnessFile.{IsWitnessFile}
 use Rattle.fs_region_ends.specs.declared.fences.Fence.TheVariants.{Placed}
 use Rattle.fs_region_ends.specs.Kinds.{ChainKind}
@@ -85,6 +87,32 @@ IsAllowedWhy = IsExecutionTold no_fences allowed_heading
 -- with rw,rw in every slot
 abbrev pub IsNoneWhy : (test : List ℕ) → Witness → (text : List ℕ) → Type 0
 IsNoneWhy = IsExecutionTold full_fences none_heading
+
+-- ---- of a test whose outcome is forbidden, why it is
+
+-- with these fences: the contradictions of what shows it. Which of several this is, is left open.
+pub record TellsForbidden (t : Test) (lines : List (List ℕ)) (p : List Entry) (text : List ℕ) : Type 0 where
+  pub cycles : Cycles
+  pub kinds : List ChainKind
+  pub shows : Forbid t p cycles
+  pub are_kinds : AreKinds t p cycles kinds
+  pub told : text ≡ cycles_text t lines cycles kinds
+
+-- as it is written
+pub record IsForbiddenWhy (test text : List ℕ) : Type 0 where
+  pub the_test : Test
+  pub lines : List (List ℕ)
+  pub reads : Reads test the_test
+  pub stand : StandIn test lines
+  pub tells : TellsForbidden the_test lines (no_fences the_test) text
+
+-- as it is written some execution shows it
+abbrev pub IsAllowed : (test : List ℕ) → Type 0
+IsAllowed test = (t : Test) × Reads test t × Allows t (no_fences t)
+
+-- the runs of the test can't be listed, or its candidates are too many
+abbrev pub HasCandidateFault : (test : List ℕ) → Fault → Type 0
+HasCandidateFault test fault = (t : Test) × Reads test t × IsCandidateFault t fault
 
 -- ---- of fences, an execution without each
 

@@ -1,4 +1,4 @@
-//! Why the outcome is ruled out with the fences of an answer: the contradictions of its certificate.
+//! The contradictions of a certificate: why its fences rule the outcome out.
 
 ghost use Rattle.std.specs.Prelude.{◌≡◌, ◌≢◌, map, IfOk, IfErr, string_bytes};
 ghost use Rattle.std.specs.Arc.{arc_value};
@@ -51,8 +51,9 @@ fn texts_of(alloc: Global, codes: &[Code]) -> Result<Vec<List<Name>>, AllocError
     Ok(texts)
 }
 
-/// The kinds of the ends to which the inferences come.
-fn inferred_kinds(
+/// The kinds of the ends to which the inferences come, in the order in which they are told. The cost is that of
+/// `chains` and `kinds_of` of fs_region_ends; the faults are those of `Basis::new`.
+pub(crate) fn inferred_kinds(
     alloc: Global,
     test: &Arc<Test>,
     placement: &Placement,
@@ -70,8 +71,7 @@ fn inferred_kinds(
     Ok(kinds)
 }
 
-/// The kinds of the ends of a certificate's inferences, in the order in which they are told; of a list of cycles there
-/// are none. The cost is that of `chains` and `kinds_of` of fs_region_ends; the faults are those of `Basis::new`.
+/// The same of a certificate's inferences; of a list of cycles there are none.
 pub(crate) fn kinds_by(
     alloc: Global,
     test: &Arc<Test>,

@@ -1,4 +1,4 @@
-use Rattle.std.proofs.Common.{Option, Some, List, IfOk, subst, sym, string_bytes}
+use Rattle.std.proofs.Common.{Option, IfOk, subst, sym, string_bytes}
 use Rattle.fs_kinds.specs.declared.kind.Kind.{Kind}
 use Rattle.fs_app_why.specs.Why.{NoWitnessShows, TellsWithout}
 use Rattle.fs_app_why.proofs.without.without_text.Goals as goal
