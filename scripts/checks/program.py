@@ -177,6 +177,22 @@ def check_why(checks):
             checks.expect(f"{path} without {fence}", f"yes\n\nIn the order of memory:\n{rows.rstrip()}\n", said.out)
 
 
+def check_forbidden(checks):
+    """`test --why` tells of each example that is forbidden as it is written contradictions, no more than it counts, that
+    hold together, by fences that stand there."""
+    for path in [*tests_of_examples(), *glob.glob(f"{EXAMPLES}/tests/*.litmus")]:
+        head, *blocks = rvfence("test", path, "--why", "-q").out.split("\n\n")
+        if counted := re.search(r"  forbidden  (?:(\d+) contradiction|no )", head):
+            rows = [" ".join(line.split()) for line in text_of(path).split("\n")]
+            chains = [block for block in blocks if re.match(r"(cycle|stale|not atomic) \d+", block)]
+            is_right = min(int(counted[1] or 0), 1) <= len(chains) <= int(counted[1] or 0)
+            checks.check(f"how many contradictions are told of {path}", is_right, head)
+            for block in chains:
+                fences = re.findall(r"\|   (fence\S* ?\S*) in line (\d+) \(rule 4", block)
+                missing = [fence for fence, line in fences if fence not in rows[int(line) - 1]]
+                checks.expect(f"what is wrong with this of {path}: {block}", [], [*faults_of_chain(block, {}), *missing])
+
+
 def answer_of(found):
     """The lines of `solve` that say what its JSON object says."""
     if found["answer"] == "none":
@@ -263,5 +279,5 @@ def check(run):
     ran([f"{TOP}/rvfence", "place", f"{EXAMPLES}/MP.litmus"], seconds=None)
     checks = Transcripts(run)
     for part in (check_transcripts, check_examples, check_idioms, check_documents, check_answers, check_why,
-                 check_objects, check_messages, check_progress):
+                 check_forbidden, check_objects, check_messages, check_progress):
         part(checks)
