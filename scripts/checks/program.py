@@ -178,8 +178,8 @@ def check_why(checks):
 
 
 def check_forbidden(checks):
-    """`test --why` tells of each example that is forbidden as it is written contradictions, no more than it counts, that
-    hold together, by fences that stand there."""
+    """`test --why` tells of each example that is forbidden as it is written contradictions, no more than it counts,
+    that hold together, by fences that stand there."""
     for path in [*tests_of_examples(), *glob.glob(f"{EXAMPLES}/tests/*.litmus")]:
         head, *blocks = rvfence("test", path, "--why", "-q").out.split("\n\n")
         if counted := re.search(r"  forbidden  (?:(\d+) contradiction|no )", head):
@@ -189,8 +189,9 @@ def check_forbidden(checks):
             checks.check(f"how many contradictions are told of {path}", is_right, head)
             for block in chains:
                 fences = re.findall(r"\|   (fence\S* ?\S*) in line (\d+) \(rule 4", block)
-                missing = [fence for fence, line in fences if fence not in rows[int(line) - 1]]
-                checks.expect(f"what is wrong with this of {path}: {block}", [], [*faults_of_chain(block, {}), *missing])
+                faults = [fence for fence, line in fences if fence not in rows[int(line) - 1]]
+                faults += faults_of_chain(block, {})
+                checks.expect(f"what is wrong with this of {path}: {block}", [], faults)
 
 
 def answer_of(found):
