@@ -139,13 +139,20 @@ def faults_of_chain(block, placed):
 
 
 def check_contradictions(checks, path, head, blocks, placed):
-    """Of fences it is told why they rule the outcome out: in chains that hold together, by fences of the answer."""
+    """Of fences it is told why they rule the outcome out: in chains that hold together, by fences of the answer. And
+    behind each fence stands in which of them it is needed."""
     is_told = bool(blocks) and re.match(r"Each way to the outcome has |No way to the outcome is left ", blocks[0])
     checks.expect(f"whether contradictions are told of {path}", head.startswith("fenced"), bool(is_told))
     chains = [block for block in blocks if re.match(r"(cycle|stale|not atomic) \d+", block)]
     checks.expect(f"whether a chain is told of {path}", bool(is_told) and blocks[0].startswith("Each"), bool(chains))
     for block in chains:
         checks.expect(f"what is wrong with this of {path}: {block}", [], [*faults_of_chain(block, placed)])
+    told = {block.split()[1].strip(",") for block in chains if block.startswith("cycle ")}
+    for fence, cycles in placed.items():
+        said = re.fullmatch(r": in (?:cycles? ([\d, and]*\d))?(?: and )?(?:\d+ more kinds?)?", cycles)
+        numbers = set(re.findall(r"\d+", said[1] or "") if said else [])
+        is_right = bool(said) and numbers <= told
+        checks.expect(f"{path}: whether {fence} is in cycles that are told{cycles}", True, is_right)
 
 
 def check_why(checks):
@@ -156,7 +163,8 @@ def check_why(checks):
         fences, test = fences_of(head.split("\n")), model.read(path, model.test_of)
         cases = [(fence, [it for it in fences if it != fence]) for fence in fences]
         told_of = [block for block in blocks if re.match(r"\S+ before P\d+:\d+ \(line |The outcome can be ", block)]
-        placed = {re.match(r"(\S+) before \S+ \(line (\d+),", it).groups() for it in told_of if " before P" in it[:20]}
+        named = [re.match(r"(\S+) before \S+ \(line (\d+),.*\)(.*)", it) for it in told_of if " before P" in it[:20]]
+        placed = {it.groups()[:2]: it[3] for it in named}
         check_contradictions(checks, path, head, [it for it in blocks if it not in told_of], placed)
         if head.startswith("none"):
             cases = [("all", [f"P{hart}:{at}=rw,rw" for hart, at in test.slots()])]
@@ -167,6 +175,23 @@ def check_why(checks):
             witness = written(f"{checks.folder}/witness.json", told(test, block))
             said, rows = rvfence("order", path, witness, *words, "--why"), block.partition("memory:\n")[2]
             checks.expect(f"{path} without {fence}", f"yes\n\nIn the order of memory:\n{rows.rstrip()}\n", said.out)
+
+
+def check_forbidden(checks):
+    """`test --why` tells of each example that is forbidden as it is written contradictions, no more than it counts,
+    that hold together, by fences that stand there."""
+    for path in [*tests_of_examples(), *glob.glob(f"{EXAMPLES}/tests/*.litmus")]:
+        head, *blocks = rvfence("test", path, "--why", "-q").out.split("\n\n")
+        if counted := re.search(r"  forbidden  (?:(\d+) contradiction|no )", head):
+            rows = [" ".join(line.split()) for line in text_of(path).split("\n")]
+            chains = [block for block in blocks if re.match(r"(cycle|stale|not atomic) \d+", block)]
+            is_right = min(int(counted[1] or 0), 1) <= len(chains) <= int(counted[1] or 0)
+            checks.check(f"how many contradictions are told of {path}", is_right, head)
+            for block in chains:
+                fences = re.findall(r"\|   (fence\S* ?\S*) in line (\d+) \(rule 4", block)
+                faults = [fence for fence, line in fences if fence not in rows[int(line) - 1]]
+                faults += faults_of_chain(block, {})
+                checks.expect(f"what is wrong with this of {path}: {block}", [], faults)
 
 
 def answer_of(found):
@@ -255,5 +280,5 @@ def check(run):
     ran([f"{TOP}/rvfence", "place", f"{EXAMPLES}/MP.litmus"], seconds=None)
     checks = Transcripts(run)
     for part in (check_transcripts, check_examples, check_idioms, check_documents, check_answers, check_why,
-                 check_objects, check_messages, check_progress):
+                 check_forbidden, check_objects, check_messages, check_progress):
         part(checks)

@@ -1,5 +1,6 @@
 -- A line that says of some bytes that their outcome is allowed has a witness, which gives an execution that shows it.
-use Rattle.std.proofs.Common.{◌≡◌, ◌∙◌, true, Option, None, Some, List, [], ℕ, inl, inr, ap, refl, string_bytes, subst, sym}
+-- Where it says that the outcome is forbidden, no execution does.
+use Rattle.std.proofs.Common.{◌≡◌, ◌∙◌, Bool, true, false, Option, None, Some, List, [], ℕ, inl, inr, ap, refl, string_bytes, subst, sym}
 use Rattle.std.proofs.lemmas.Bool.{false≢true}
 use Rattle.fs_kinds.specs.declared.fault.Fault.{Fault}
 use Rattle.fs_model.specs.declared.test.Test.{Test}
@@ -13,11 +14,11 @@ use Rattle.fs_litmus.proofs.ReadsOnce.{reads_once}
 use Rattle.fs_app_test.specs.declared.said.Kind.{Kind}
 use Rattle.fs_app_test.specs.declared.said.Kind.TheVariants as kind
 use Rattle.fs_app_test.specs.declared.said.Line.{Line}
-use Rattle.fs_app_test.specs.SaidVerdicts.{Says, SaysAllowed, witness_in}
+use Rattle.fs_app_test.specs.SaidVerdicts.{IsForbidden, Says, SaysAllowed, witness_in}
 use Rattle.fs_app_test.specs.Verdicts.{IsTested, NamesFault, SaysOfBytes}
 use Rattle.fs_app_files.specs.Judging.{IsJudged}
-use Rattle.fs_app_why.specs.Why.{IsNotShown}
-use Rattle.fs_app.specs.Telling.{is_allowed}
+use Rattle.fs_app_why.specs.Why.{IsAllowed, IsNotShown}
+use Rattle.fs_app.specs.Telling.{is_allowed, is_forbidden}
 
 -- ---- tests that are the same but for where the parts of their conditions lie
 
@@ -40,13 +41,15 @@ shown_same t u e s h =
 
 -- ---- what is said
 
-no_fault : (fault : Fault) (k : Kind) (why : List ℕ) (w : Option Witness) → is_allowed k ≡ true → NamesFault fault k why w → ⊥
-no_fault fault k why w allowed names = false≢true (sym (ap is_allowed names.faulty) ∙ allowed)
+-- what is so of the kind that is said, and not of faults
+module _ (is_so : Kind → Bool) (never : is_so kind.Faulty ≡ false) where
+  no_fault : (fault : Fault) (k : Kind) (why : List ℕ) (w : Option Witness) → is_so k ≡ true → NamesFault fault k why w → ⊥
+  no_fault fault k why w so names = false≢true (sym never ∙ sym (ap is_so names.faulty) ∙ so)
 
-tested : (bytes : List ℕ) (k : Kind) (why : List ℕ) (w : Option Witness) → is_allowed k ≡ true → SaysOfBytes bytes k why w
-    → IsTested bytes k why w
-tested bytes k why w allowed (inl is) = is
-tested bytes k why w allowed (inr (fault, first, names)) = absurd (no_fault fault k why w allowed names)
+  tested : (bytes : List ℕ) (k : Kind) (why : List ℕ) (w : Option Witness) → is_so k ≡ true → SaysOfBytes bytes k why w
+      → IsTested bytes k why w
+  tested bytes k why w so (inl is) = is
+  tested bytes k why w so (inr (fault, first, names)) = absurd (no_fault fault k why w so names)
 
 says_allowed : (t : Test) (k : Kind) (why : List ℕ) (w : Option Witness) → is_allowed k ≡ true → Says t k why w
     → (v : Witness) × (w ≡ Some v) × SaysAllowed t why v
@@ -56,26 +59,40 @@ says_allowed t kind.Forbidden why w allowed says = absurd (false≢true allowed)
 says_allowed t kind.Vacuous why w allowed says = absurd (false≢true allowed)
 says_allowed t kind.Faulty why w allowed says = absurd (false≢true allowed)
 
-module _ (line : Line) (allowed : is_allowed line.said.kind ≡ true) where
-  no_text : (t : Test) → Reads [] t → ⊥
-  no_text t reads = absurd (let none = reads.has_form.has_tokens.after_title in cc)
+says_forbidden : (t : Test) (k : Kind) (why : List ℕ) (w : Option Witness) → is_forbidden k ≡ true → Says t k why w → IsForbidden t
+says_forbidden t kind.Forbidden why None forbidden says = says.forbidden
+says_forbidden t kind.Forbidden why (Some v) forbidden says = absurd says
+says_forbidden t kind.Allowed why w forbidden says = absurd (false≢true forbidden)
+says_forbidden t kind.Vacuous why w forbidden says = absurd (false≢true forbidden)
+says_forbidden t kind.Faulty why w forbidden says = absurd (false≢true forbidden)
 
-  some_once : (w : Option Witness) (v u : Witness) → w ≡ Some v → w ≡ Some u → v ≡ u
-  some_once w v u e k = cc
+no_text : (t : Test) → Reads [] t → ⊥
+no_text t reads = absurd (let none = reads.has_form.has_tokens.after_title in cc)
 
-  pub is_shown : (test : List ℕ) (w : Witness) → IsJudged line test → witness_in line.said.witness ≡ Some w
-      → IsNotShown no_fences test w → ⊥
-  is_shown test w (inr (none, rest)) has not = no_text not.the_test (subst (λ bytes. Reads bytes not.the_test) none not.reads)
-  is_shown test w (inl is) has not =
-      let of = tested test line.said.kind (string_bytes line.said.why) (witness_in line.said.witness) allowed is in
-      let says = says_allowed of.the_test line.said.kind (string_bytes line.said.why) (witness_in line.said.witness) allowed of.says in
-      let one : says.0 ≡ w = some_once _ says.0 w says.1 has in
-      let same = reads_once test of.the_test not.the_test of.reads not.reads in
-      let e = says.2.execution in
-      not.shown (
-        e,
-        (
-          subst (λ v. IsOfWitness not.the_test v e) one (given_same of.the_test not.the_test says.0 e same says.2.given),
-          shown_same of.the_test not.the_test e same says.2.shows,
-        ),
-      )
+some_once : (w : Option Witness) (v u : Witness) → w ≡ Some v → w ≡ Some u → v ≡ u
+some_once w v u e k = cc
+
+pub is_shown : (line : Line) → is_allowed line.said.kind ≡ true → (test : List ℕ) (w : Witness) → IsJudged line test
+    → witness_in line.said.witness ≡ Some w → IsNotShown no_fences test w → ⊥
+is_shown line allowed test w (inr (none, rest)) has not = no_text not.the_test (subst (λ bytes. Reads bytes not.the_test) none not.reads)
+is_shown line allowed test w (inl is) has not =
+    let of = tested is_allowed refl test line.said.kind (string_bytes line.said.why) (witness_in line.said.witness) allowed is in
+    let says = says_allowed of.the_test line.said.kind (string_bytes line.said.why) (witness_in line.said.witness) allowed of.says in
+    let one : says.0 ≡ w = some_once _ says.0 w says.1 has in
+    let same = reads_once test of.the_test not.the_test of.reads not.reads in
+    let e = says.2.execution in
+    not.shown (
+      e,
+      (
+        subst (λ v. IsOfWitness not.the_test v e) one (given_same of.the_test not.the_test says.0 e same says.2.given),
+        shown_same of.the_test not.the_test e same says.2.shows,
+      ),
+    )
+
+pub is_ruled_out : (line : Line) → is_forbidden line.said.kind ≡ true → (test : List ℕ) → IsJudged line test → IsAllowed test → ⊥
+is_ruled_out line forbidden test (inr (none, rest)) shown = no_text shown.0 (subst (λ bytes. Reads bytes shown.0) none shown.1)
+is_ruled_out line forbidden test (inl is) shown =
+    let of = tested is_forbidden refl test line.said.kind (string_bytes line.said.why) (witness_in line.said.witness) forbidden is in
+    let e = shown.2.0 in
+    says_forbidden of.the_test line.said.kind (string_bytes line.said.why) (witness_in line.said.witness) forbidden of.says
+    (e, shown_same shown.0 of.the_test e (reads_once test shown.0 of.the_test shown.1 of.reads) shown.2.1)

@@ -5,7 +5,7 @@ use Rattle.std.proofs.lemmas.List.{append-nil}
 use Rattle.fs_app_io.specs.declared.status.Output.{Output}
 use Rattle.fs_app_io.specs.declared.status.Status.{Status}
 use Rattle.fs_app_solve.specs.Solve.{IsCertified}
-use Rattle.fs_app_why.specs.Forbidden.{IsCertifiedWhy}
+use Rattle.fs_app_why.specs.Why.{IsCertifiedWhy}
 use Rattle.fs_app.specs.Answers.{IsSolvedAndTold, IsSolvedIn}
 use Rattle.fs_app_test.specs.declared.said.Line.{Line}
 use Rattle.fs_app.specs.Telling.{AreToldFrom, IsSolveWhy, IsTestTold, IsTold}

@@ -17,8 +17,7 @@ use Rattle.fs_app_test.specs.declared.said.Kind.{Kind}
 use Rattle.fs_app_test.specs.declared.said.Line.{Line}
 use Rattle.fs_app_test.specs.Status.{report_status}
 use Rattle.fs_app_test.specs.Report.{report_text, json_text}
-use Rattle.fs_app_why.specs.Forbidden.{IsCertifiedWhy}
-use Rattle.fs_app_why.specs.Why.{IsOrderWhy}
+use Rattle.fs_app_why.specs.Why.{IsCertifiedWhy, IsOrderWhy}
 use Rattle.fs_app_command_line.specs.declared.command.Task.{Task}
 use Rattle.fs_app_command_line.specs.declared.command.Task.TheVariants as task
 use Rattle.fs_app_command_line.specs.declared.command.Test.{Test}

@@ -1,5 +1,6 @@
 -- What is told below answers.
-use Rattle.std.specs.Prelude.{◌≡◌, ℕ, ◌+◌, Bool, true, false, Option, None, Some, List, [], ◌∷◌, ◌++◌, codes}
+use Rattle.std.specs.Prelude.{◌≡◌, ℕ, ◌+◌, ◌==◌, Bool, true, false, Option, None, Some, List, [], ◌∷◌, ◌++◌, length, codes}
+use Rattle.std.specs.Prelude.{if◌then◌else◌}
 use Rattle.std.specs.List.{slice_index_or}
 use Rattle.fs_model.specs.Witness.{Witness}
 use Rattle.fs_app_io.specs.declared.status.Status.{Status}
@@ -10,8 +11,7 @@ use Rattle.fs_app_test.specs.declared.said.Kind.TheVariants as kind
 use Rattle.fs_app_test.specs.declared.said.Line.{Line}
 use Rattle.fs_app_test.specs.Report.{shown_name}
 use Rattle.fs_app_test.specs.SaidVerdicts.{witness_in}
-use Rattle.fs_app_why.specs.Forbidden.{IsCertifiedWhy}
-use Rattle.fs_app_why.specs.Why.{IsAllowedWhy}
+use Rattle.fs_app_why.specs.Why.{IsAllowedWhy, IsCertifiedWhy, IsForbiddenWhy}
 
 -- this, where it is asked for; else nothing
 abbrev pub IsTold : (is_asked : Bool) → (List ℕ → Type 0) → (text : List ℕ) → Type 0
@@ -31,10 +31,28 @@ abbrev pub is_allowed : Kind → Bool
 is_allowed kind.Allowed = true
 is_allowed other = false
 
--- of the test that has this line, where its outcome is allowed; else nothing
+-- this text below the name, if there is any
+abbrev pub named : (name text : List ℕ) → List ℕ
+named name text = if length text == 0 then [] else codes "\n" ++ (name ++ text)
+
+-- below this name why no execution of the test as it is written shows the outcome
+abbrev pub IsForbiddenBlock : (name test text : List ℕ) → Type 0
+IsForbiddenBlock name test text = (why : List ℕ) × IsForbiddenWhy test why × (text ≡ named name why)
+
+abbrev pub is_forbidden : Kind → Bool
+is_forbidden kind.Forbidden = true
+is_forbidden other = false
+
+-- the first, where this is so; else the second
+abbrev pub IsEither : Bool → (P Q : List ℕ → Type 0) → (text : List ℕ) → Type 0
+IsEither true P Q text = P text
+IsEither false P Q text = Q text
+
+-- of the test that has this line, where its outcome is allowed or forbidden; else nothing
 abbrev pub IsTestTold : Line → (test text : List ℕ) → Type 0
 IsTestTold line test text =
-    IsTold (is_allowed line.said.kind) (IsBlock (shown_name line) (witness_in line.said.witness) test) text
+    IsEither (is_allowed line.said.kind) (IsBlock (shown_name line) (witness_in line.said.witness) test)
+    (IsTold (is_forbidden line.said.kind) (IsForbiddenBlock (shown_name line) test)) text
 
 -- of these lines, one below the other, the first of which has the test of this number; a test that isn't there has no
 -- bytes

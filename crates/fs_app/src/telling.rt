@@ -6,16 +6,16 @@ ghost use Rattle.fs_app_files.specs.Judging.{AreJudged, IsJudged};
 ghost use Rattle.fs_app_solve.specs.Solve.{IsCertified};
 ghost use Rattle.fs_app_test.specs.Report.{shown_name};
 ghost use Rattle.fs_app_test.specs.SaidVerdicts.{witness_in};
-ghost use Rattle.fs_app_why.specs.Forbidden.{IsCertifiedWhy};
-ghost use Rattle.fs_app_why.specs.Why.{IsOrderWhy};
+ghost use Rattle.fs_app_why.specs.Why.{IsCertifiedWhy, IsOrderWhy};
 ghost use Rattle.fs_app.specs.Answers.{IsSolvedAndTold, IsSolvedIn};
-ghost use Rattle.fs_app.specs.Telling.{AreTold, IsBlock, IsTestTold, IsTold, is_allowed, is_yes};
+ghost use Rattle.fs_app.specs.Telling.{AreTold, IsBlock, IsForbiddenBlock, IsTestTold, IsTold, is_allowed};
+ghost use Rattle.fs_app.specs.Telling.{is_forbidden, is_yes, named};
 
 use fs_app_error_messages::shown_name;
 use fs_app_files::Papers;
 use fs_app_io::{Output, Status};
 use fs_app_test::{Kind, Line};
-use fs_app_why::{why_allowed, why_certified, why_order};
+use fs_app_why::{why_allowed, why_certified, why_forbidden, why_order};
 use fs_kinds::Fault;
 use std::alloc::{AllocError, Global};
 
@@ -89,14 +89,14 @@ pub(crate) fn solve_why(
     Ok(told)
 }
 
-/// Appends the execution below the name.
+/// Appends what is told below the name.
 fn push_below(name: &str, told: &str, text: &mut String) -> Result<(), AllocError>
     ensures { OnOk result (string_bytes text.new ≡ string_bytes text.old ++ (codes "\n" ++ (name.now ++ told.now))) }
 {
     write!(text, "\n{}{}", name, told)
 }
 
-/// Appends the execution below the name in the line, as it is shown.
+/// Appends what is told below the name in the line, as it is shown.
 fn push_named(alloc: Global, line: &Line, told: &str, text: &mut String) -> Result<(), AllocError>
     ensures { OnOk result (string_bytes text.new
         ≡ string_bytes text.old ++ (codes "\n" ++ (shown_name line.now ++ told.now))) }
@@ -133,16 +133,53 @@ fn push_shown(alloc: Global, line: &Line, test: &[u8], text: &mut String) -> Res
     }
 }
 
-/// Appends what is told of the test that has this line: nothing where its outcome isn't allowed.
+/// Is the outcome forbidden?
+fn is_forbidden(kind: Kind) -> bool
+    ensures { result ≡ is_forbidden kind }
+{
+    match kind {
+        Kind::Forbidden => true,
+        Kind::Allowed | Kind::Vacuous | Kind::Faulty => false,
+    }
+}
+
+/// Appends what is told below the name in the line, if there is any.
+fn push_some(alloc: Global, line: &Line, told: &str, text: &mut String) -> Result<(), AllocError>
+    ensures { OnOk result (string_bytes text.new
+        ≡ string_bytes text.old ++ named (shown_name line.now) told.now) }
+{
+    if told.is_empty() {
+        return Ok(());
+    }
+    push_named(alloc, line, told, text)
+}
+
+/// Appends what is told of a test that forbids its outcome: below its name why that is so.
+fn push_forbidden(alloc: Global, line: &Line, test: &[u8], text: &mut String) -> Result<(), Fault>
+    requires judged { IsJudged line.now test.now }
+    requires forbidden { is_forbidden line.now.said.kind ≡ true }
+    ensures { OnOk result ((told : List ℕ) × IsForbiddenBlock (shown_name line.now) test.now told
+        × (string_bytes text.new ≡ string_bytes text.old ++ told)) }
+{
+    match why_forbidden(alloc, test)? {
+        Some(told) => Ok(push_some(alloc, line, told.as_str(), text)?),
+        None => unreachable!(),
+    }
+}
+
+/// Appends what is told of the test that has this line: nothing where its outcome is neither allowed nor forbidden.
 fn push_told(alloc: Global, line: &Line, test: &[u8], text: &mut String) -> Result<(), Fault>
     requires { IsJudged line.now test.now }
     ensures { OnOk result ((told : List ℕ) × IsTestTold line.now test.now told
         × (string_bytes text.new ≡ string_bytes text.old ++ told)) }
 {
-    if !is_allowed(line.said.kind) {
-        return Ok(());
+    if is_allowed(line.said.kind) {
+        return push_shown(alloc, line, test, text);
     }
-    push_shown(alloc, line, test, text)
+    if is_forbidden(line.said.kind) {
+        return push_forbidden(alloc, line, test, text);
+    }
+    Ok(())
 }
 
 /// The bytes of the test of this number; none where there is no such test.

@@ -358,7 +358,7 @@ const JSON_HELP: &str = "Print a JSON object";
 const ORDER_WHY_HELP: &str = "Tell the execution of a yes, operation by operation";
 
 const TEST_WHY_HELP: &str =
-    "Tell an execution of each outcome that is allowed, operation by operation; not with --json";
+    "Tell an execution of each allowed outcome, and why one is forbidden; not with --json";
 
 const WITHOUT_HELP: &str =
     "Tell contradictions, and an execution without each fence, or that of `none`; not with --json";

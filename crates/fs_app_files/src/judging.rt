@@ -6,7 +6,7 @@ ghost use Rattle.fs_app_files.specs.Judging.{AreJudged};
 use crate::expecting::Expecting;
 use crate::papers::{message_of_file, note_of_file, note_or};
 use fs_app_io::{Missing, Source};
-use fs_app_test::{Expected, Line, Note, test_file};
+use fs_app_test::{Expected, Kind, Line, Note, test_file};
 use fs_kinds::Fault;
 use std::alloc::{AllocError, Global};
 use std::marker::Model;
@@ -32,7 +32,7 @@ pub struct Wants {
     pub messages: bool,
     /// Notes for those who read JSON.
     pub notes: bool,
-    /// Whether tests that allow their outcome are kept.
+    /// Whether tests are kept of whose outcome more can be told: that it is allowed, or forbidden.
     pub tests: bool,
 }
 
@@ -41,7 +41,8 @@ pub struct Wants {
 pub struct Judged {
     pub lines: Vec<Line>,
     pub messages: Vec<String>,
-    /// Of each line the bytes of its test; nothing where tests aren't kept, or this one doesn't allow its outcome.
+    /// Of each line the bytes of its test; nothing where tests aren't kept, or this one neither allows nor forbids its
+    /// outcome.
     pub tests: Vec<Vec<u8>>,
 }
 
@@ -62,6 +63,14 @@ impl Model for Tested {
     ghost invariant = { λ t. IsJudged t.line t.test.items };
 }
 
+/// Can more be told of a test of which this is said?
+fn has_more(kind: Kind) -> bool {
+    match kind {
+        Kind::Allowed | Kind::Forbidden => true,
+        Kind::Vacuous | Kind::Faulty => false,
+    }
+}
+
 /// What is said of a file that was read.
 fn tested_bytes(alloc: Global, name: &str, bytes: Vec<u8>, keeps: bool) -> Result<Tested, Fault> {
     let kept = if keeps {
@@ -70,7 +79,7 @@ fn tested_bytes(alloc: Global, name: &str, bytes: Vec<u8>, keeps: bool) -> Resul
         Vec::new(alloc)
     };
     let line = test_file(alloc, name, Ok(bytes))?;
-    if line.said.witness.is_some() {
+    if has_more(line.said.kind) {
         return Ok(Tested { line, test: kept });
     }
     Ok(Tested {

@@ -27,7 +27,9 @@ use Rattle.fs_app_io.specs.declared.status.Status.{Status}
 use Rattle.fs_app_io.specs.declared.status.Status.TheVariants.{Denied, Success}
 use Rattle.fs_app_check.specs.Check.{IsChecked, yes_line}
 use Rattle.fs_app_solve.specs.Solve.{IsCertified, PrintsPlaced}
-use Rattle.fs_app_why.specs.Why.{IsAnswerWhy, NoWitnessShows, TellsAllFences, TellsAnswer, TellsFences, TellsSlot}
+use Rattle.fs_region_ends.specs.Kinds.{ChainKind}
+use Rattle.fs_app_why.specs.Forbidden.{cycles_text}
+use Rattle.fs_app_why.specs.Why.{IsCertifiedWhy, NoWitnessShows, TellsAllFences, TellsAnswer, TellsFences, TellsWithout}
 use Rattle.fs_app_guarantees.specs.FencesTold.{EachIsTold, FencesAreTold}
 use Rattle.fs_app_guarantees.proofs.Agrees.{places, slots_alike}
 use Rattle.fs_app_guarantees.proofs.KeptPlacements.{shown_by_same}
@@ -37,20 +39,20 @@ listed ws j w e = (j, slice_get_within ws j w e, get_or_from_slice_get ws j w w 
 
 -- ---- where no fence may be left untold each is told
 
-module _ (t : Test) (lines : List (List ℕ)) (ws : List Witness) (N : List Entry → Type 0) (p : List Entry) where
+module _ (t : Test) (lines : List (List ℕ)) (kinds : List ChainKind) (ws : List Witness) (N : List Entry → Type 0) (p : List Entry) where
   slot_told : (slot : Slot) (kind : Option Kind) (text : List ℕ) → ((k : Kind) → kind ≡ Some k → N (with_kind slot None p) → ⊥)
-      → TellsSlot t lines ws N p slot kind text → TellsSlot t lines ws (λ q. ⊥) p slot kind text
+      → TellsWithout t lines kinds ws N p slot kind text → TellsWithout t lines kinds ws (λ q. ⊥) p slot kind text
   slot_told slot None text never told = told
   slot_told slot (Some kind) text never told = elim told [ inl shown ↦ inl shown | inr none ↦ absurd (never kind refl none.0) ]
 
   each_told : (entries : List Entry) (text : List ℕ)
       → ((k : ℕ) (e : Entry) (kind : Kind) → slice_get entries k ≡ Some e → e.kind ≡ Some kind → N (with_kind e.slot None p) → ⊥)
-      → TellsFences t lines ws N p entries text → TellsFences t lines ws (λ q. ⊥) p entries text
+      → TellsFences t lines kinds ws N p entries text → TellsFences t lines kinds ws (λ q. ⊥) p entries text
   each_told [] text never told = told
   each_told (entry ∷ entries) text never (first, others, is, are, e) = (
     first,
     others,
-    slot_told entry.slot entry.kind first (λ kind filled. never 0 entry kind refl filled) is,
+    (is.0, slot_told entry.slot entry.kind is.0 (λ kind filled. never 0 entry kind refl filled) is.1, is.2),
     each_told entries others (λ k f kind at. never (suc k) f kind at) are,
     e,
   )
@@ -69,12 +71,13 @@ module _ (test certificate text : List ℕ) (t : Test) (prices : PriceTable) (c 
       none w (listed c.witnesses shown.0 w shown.1.1.1)
       ((shown_by_same t u same (with_kind e.slot None p) w).0 (shown.1.0, shown.1.1.2))
 
-  told : IsAnswerWhy test certificate text → EachIsTold test p c.witnesses text
+  told : IsCertifiedWhy test certificate text → EachIsTold test p c.witnesses text
   told why =
       let one : why.said ≡ c = file_once certificate why.said c why.file file in
-      let tells : TellsAnswer test c.answer c.witnesses text = subst (λ (d : Certificate). TellsAnswer test d.answer d.witnesses text) one why.tells in
-      let fenced : TellsAllFences test (fence_words p) c.witnesses text =
-      subst (λ (a : Answer). TellsAnswer test a c.witnesses text) valid.answered.answered tells in
+      let tells : TellsAnswer test c.answer c.cycles c.witnesses text =
+      subst (λ (d : Certificate). TellsAnswer test d.answer d.cycles d.witnesses text) one why.tells in
+      let fenced : TellsAllFences test (fence_words p) c.cycles c.witnesses text =
+      subst (λ (a : Answer). TellsAnswer test a c.cycles c.witnesses text) valid.answered.answered tells in
       let u = fenced.the_test in
       let same : IsSame t u = reads_once test t u reads fenced.reads in
       let one_place = places test t reads in
@@ -86,10 +89,15 @@ module _ (test certificate text : List ℕ) (t : Test) (prices : PriceTable) (c 
       record {
         the_test = u;
         lines = fenced.lines;
+        kinds = fenced.kinds;
+        above = cycles_text u fenced.lines c.cycles fenced.kinds;
+        fences = fenced.fences;
         reads = fenced.reads;
         stand = fenced.stand;
-        told = each_told u fenced.lines c.witnesses (NoWitnessShows u c.witnesses) p p text (some_witness u same)
-            (subst (λ (q : List Entry). TellsFences u fenced.lines c.witnesses (NoWitnessShows u c.witnesses) q q text) placement fenced.told);
+        told = each_told u fenced.lines fenced.kinds c.witnesses (NoWitnessShows u c.witnesses) p p fenced.fences (some_witness u same)
+            (subst (λ (q : List Entry). TellsFences u fenced.lines fenced.kinds c.witnesses (NoWitnessShows u c.witnesses) q q fenced.fences)
+            placement fenced.tells);
+        is_text = fenced.told;
       }
 
 -- ---- of what `solve` and `check` print
@@ -99,7 +107,7 @@ not_first (Listed cycles) version is first = absurd (let other : First ≡ Secon
 not_first (Inferred inferences) version is first = absurd (let other : First ≡ Fourth = sym first ∙ is in cc)
 
 module _ (test prices lines certificate text : List ℕ) where
-  pub solved : (status : Status) → IsCertified test prices lines status certificate → IsAnswerWhy test certificate text
+  pub solved : (status : Status) → IsCertified test prices lines status certificate → IsCertifiedWhy test certificate text
       → FencesAreTold test lines text
   solved status s why = by_answer s.placed s.answer s.certified.valid
     where
@@ -118,7 +126,7 @@ module _ (test prices lines certificate text : List ℕ) where
       )
 
   pub checked : (c : Certificate) → IsChecked test prices certificate lines Success → IsCertificateFile certificate c → c.version ≢ First
-      → IsAnswerWhy test certificate text → (below : List ℕ) × (lines ≡ yes_line ++ below) × FencesAreTold test below text
+      → IsCertifiedWhy test certificate text → (below : List ℕ) × (lines ≡ yes_line ++ below) × FencesAreTold test below text
   checked c k file later why = elim k.verdict [
     | inl a ↦
         let d = k.the_certificate in

@@ -1,20 +1,26 @@
 -- That `--why` tells an execution without each fence of an answer.
-use Rattle.std.specs.Prelude.{◌≡◌, ◌⊎◌, ℕ, List}
+use Rattle.std.specs.Prelude.{◌≡◌, ◌⊎◌, ℕ, List, ◌++◌}
 use Rattle.fs_kinds.specs.declared.placement.Entry.{Entry}
 use Rattle.fs_model.specs.declared.test.Test.{Test}
 use Rattle.fs_model.specs.Witness.{Witness}
 use Rattle.fs_litmus.specs.Lines.{StandIn}
 use Rattle.fs_litmus.specs.Reads.{Reads}
 use Rattle.fs_cert_evidence.specs.Texts.{fenced_lines, none_lines}
+use Rattle.fs_region_ends.specs.Kinds.{ChainKind}
 use Rattle.fs_app_why.specs.Why.{TellsFences}
 
--- of each fence of the placement an execution without it, of the first of these witnesses that shows the outcome so
+-- below what else is told of each fence of the placement an execution without it, of the first of these witnesses that
+-- shows the outcome so
 pub record EachIsTold (test : List ℕ) (p : List Entry) (ws : List Witness) (text : List ℕ) : Type 0 where
   pub the_test : Test
   pub lines : List (List ℕ)
+  pub kinds : List ChainKind
+  pub above : List ℕ
+  pub fences : List ℕ
   pub reads : Reads test the_test
   pub stand : StandIn test lines
-  pub told : TellsFences the_test lines ws (λ q. ⊥) p p text
+  pub told : TellsFences the_test lines kinds ws (λ q. ⊥) p p fences
+  pub is_text : text ≡ above ++ fences
 
 -- the lines of an answer say fences, of each of which that is told, or `none`
 abbrev pub FencesAreTold : (test lines text : List ℕ) → Type 0

@@ -17,6 +17,7 @@ use Rattle.fs_cert_evidence.specs.Shown.{IsShownBy}
 use Rattle.fs_cert_evidence.specs.WitnessFile.{KeepsWitness}
 use Rattle.fs_check.specs.declared.ordered.OrderedCandidate.{OrderedCandidate}
 use Rattle.fs_check.specs.Ordered.{execution_in}
+use Rattle.fs_region_ends.specs.Kinds.{ChainKind}
 use Rattle.fs_app_why.specs.inner.Told.{IsOfFirst, NoneBefore, NoneShows}
 use Rattle.fs_app_why.specs.Reordered.{IsFirstShown, IsToldOf}
 use Rattle.fs_app_why.specs.Why.{NoWitnessShows, TellsEntry, TellsFences}
@@ -102,11 +103,11 @@ has_own p items k d same low =
     itself : (s : Slot) → is_same_slot s s ≡ true
     itself s = and_from _ _ (eq-eqb s.hart s.hart refl) (eq-eqb s.at s.at refl)
 
-module _ (t : Test) (lines : List (List ℕ)) (ws : List Witness) (N : List Entry → Type 0) (p : List Entry) where
+module _ (t : Test) (lines : List (List ℕ)) (kinds : List ChainKind) (ws : List Witness) (N : List Entry → Type 0) (p : List Entry) where
   -- one entry more
   pub fences_more : (entries : List Entry) (entry : Entry) (text told whole : List ℕ)
-      → TellsFences t lines ws N p entries text → TellsEntry t lines ws N p entry told → whole ≡ text ++ told
-      → TellsFences t lines ws N p (entries ++ entry ∷ []) whole
+      → TellsFences t lines kinds ws N p entries text → TellsEntry t lines kinds ws N p entry told → whole ≡ text ++ told
+      → TellsFences t lines kinds ws N p (entries ++ entry ∷ []) whole
   fences_more [] entry text told whole none is e = (told, [], is, refl, e ∙ ap (λ before. before ++ told) none ∙ sym (append-nil told))
   fences_more (x ∷ entries) entry text told whole (first, others, is_first, are, is_text) is e =
       (first, others ++ told, is_first, fences_more entries entry others told (others ++ told) are is refl, rw (e, is_text) (append_assoc first others told))

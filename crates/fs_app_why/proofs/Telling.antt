@@ -4,6 +4,7 @@ use Rattle.std.specs.Prelude.{if◌then◌else◌}
 use Rattle.fs_kinds.specs.declared.placement.Entry.{Entry}
 use Rattle.fs_model.specs.declared.operation.Operation.{Operation}
 use Rattle.fs_model.specs.declared.test.Test.{Test}
+use Rattle.fs_model.specs.Allows.{Allows, no_fences}
 use Rattle.fs_model.specs.Witness.{Witness}
 use Rattle.fs_model.specs.Numbers.{numbers_below}
 use Rattle.fs_model.specs.Source.{source_in}
@@ -15,7 +16,7 @@ use Rattle.fs_check.specs.Ordered.{IsOrdered, runs_in}
 use Rattle.fs_app_why.specs.declared.told.Told.{Told}
 use Rattle.fs_app_why.specs.inner.Told.{TellsExecution}
 use Rattle.fs_app_why.specs.Reordered.{IsToldOf}
-use Rattle.fs_app_why.specs.Why.{IsExecutionTold, IsNotShown}
+use Rattle.fs_app_why.specs.Why.{IsAllowed, IsExecutionTold, IsForbiddenWhy, IsNotShown, TellsForbidden}
 use Rattle.fs_app_why.specs.Traces.{told_of, early_text, late_text, mark_text, marks_early, operation_at, passed, passing, places}
 
 -- the sources of the order's operations are those of the runs
@@ -69,3 +70,19 @@ pub not_shown_if_none : {A : Type 0} (fences : Test → List Entry) (bytes : Lis
 not_shown_if_none fences bytes t p w (Some text) reads is not = tt
 not_shown_if_none fences bytes t p w None reads is not =
     record { the_test = t; reads = reads; shown = subst (λ q. IsShownBy t q w → ⊥) is not }
+
+module _ (bytes : List ℕ) (t : Test) (p : List Entry) (reads : Reads bytes t) (is : p ≡ no_fences t) where
+  pub forbidden_if_some : {A : Type 0} (lines : List (List ℕ)) (text_of : A → List ℕ) (found : Option A) → StandIn bytes lines
+      → IfSome found (λ text. TellsForbidden t lines p (text_of text)) → IfSome found (λ text. IsForbiddenWhy bytes (text_of text))
+  forbidden_if_some lines text_of (Some text) stand tells = record {
+    the_test = t;
+    lines = lines;
+    reads = reads;
+    stand = stand;
+    tells = subst (λ q. TellsForbidden t lines q (text_of text)) is tells;
+  }
+  forbidden_if_some lines text_of None stand tells = tt
+
+  pub allowed_if_none : {A : Type 0} (found : Option A) → IfNone found (Allows t p) → IfNone found (IsAllowed bytes)
+  allowed_if_none (Some text) shows = tt
+  allowed_if_none None shows = (t, reads, subst (Allows t) is shows)

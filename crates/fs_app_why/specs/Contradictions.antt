@@ -24,7 +24,7 @@ use Rattle.fs_region_ends.specs.Kinds.{ChainKind, told_links}
 use Rattle.fs_app_why.specs.declared.table.Row.{Row}
 use Rattle.fs_app_why.specs.Arrows.{arrow_text, counts_before, counts_behind, if_amo, instr_named}
 use Rattle.fs_app_why.specs.Tables.{table_text}
-use Rattle.fs_app_why.specs.Words.{line_of, text_of_instr, word_text}
+use Rattle.fs_app_why.specs.Words.{and_joined, line_of, text_of_instr, word_text}
 
 -- ---- what an operation does, as far as all runs that are left agree
 
@@ -227,3 +227,44 @@ contradictions_text t lines kinds =
     else heading_of (length kinds)
     ++ (codes "operation is in memory before the next one, and the last before the first.\n"
     ++ (told_text t lines kinds ++ (rest_text kinds ++ amo_text t kinds)))
+
+-- ---- in which of them a fence is needed: where it alone orders two operations in all runs that are left
+
+abbrev pub is_sole_in : (key : ℕ) → Chain → Bool
+is_sole_in key chain = list_any (λ link. is_same (option_map fence_key link.sole) (Some key)) chain.links
+
+abbrev pub is_sole : (key : ℕ) → ChainKind → Bool
+is_sole key kind = list_any (is_sole_in key) kind.instances
+
+module _ (kinds : List ChainKind) (key : ℕ) where
+  abbrev pub number_if : ℕ × ChainKind → List (List ℕ)
+  number_if numbered =
+      if is_told kinds numbered.0 && is_sole key numbered.1 then decimal (numbered.0 + 1) ∷ [] else []
+
+  -- the numbers of those that are told
+  abbrev pub numbers_with : List (List ℕ)
+  numbers_with = flat_map number_if (enumerate_from 0 kinds)
+
+  -- one of those that aren't
+  abbrev pub is_more : ℕ → Bool
+  is_more number = nat_lt number (length kinds) && (not (is_told kinds number) && is_sole key (kind_at kinds number))
+
+  abbrev pub count_more : ℕ
+  count_more = count_by is_more (numbers_below (length kinds))
+
+abbrev pub cycles_piece : List (List ℕ) → List (List ℕ)
+cycles_piece numbers =
+    if length numbers == 0 then []
+    else ((if length numbers == 1 then codes "cycle " else codes "cycles ") ++ and_joined numbers) ∷ []
+
+abbrev pub more_piece : ℕ → List (List ℕ)
+more_piece count =
+    if count == 0 then []
+    else (decimal count ++ (if count == 1 then codes " more kind" else codes " more kinds")) ∷ []
+
+abbrev pub joined_pieces : List (List ℕ) → List ℕ
+joined_pieces pieces = if length pieces == 0 then [] else codes ": in " ++ and_joined pieces
+
+-- behind the name of the fence of this number
+abbrev pub in_text : List ChainKind → (key : ℕ) → List ℕ
+in_text kinds key = joined_pieces (cycles_piece (numbers_with kinds key) ++ more_piece (count_more kinds key))

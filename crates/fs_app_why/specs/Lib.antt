@@ -4,6 +4,6 @@ pub mod Traces
 pub mod Arrows
 pub mod Contradictions
 pub mod Reordered
-pub mod Why
 pub mod Forbidden
+pub mod Why
 pub mod inner

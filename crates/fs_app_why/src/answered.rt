@@ -1,31 +1,38 @@
 //! What `solve --why` and `check --why` print below an answer.
 
-ghost use Rattle.std.specs.Prelude.{◌≡◌, ◌≢◌, ◌⊎◌, ℕ, ◌∷◌, List, None, IfOk, IfErr, map, string_bytes};
+ghost use Rattle.std.specs.Prelude.{◌≡◌, ◌≢◌, ◌⊎◌, ℕ, ◌∷◌, ◌++◌, List as Items, None, IfOk, IfErr, IsOkUnless, map};
+ghost use Rattle.std.specs.Prelude.{string_bytes};
 ghost use Rattle.std.specs.List.{AllZip};
 ghost use Rattle.fs_kinds.specs.declared.fault.Fault.TheVariants.{BadFence, Memory};
-ghost use Rattle.fs_model.specs.declared.test.Test.{Test};
+ghost use Rattle.fs_model.specs.declared.test.Test.{Test as Tests};
+ghost use Rattle.fs_model.specs.Test.{IsTest};
 ghost use Rattle.fs_model.specs.Witness.{Witness};
 ghost use Rattle.fs_litmus.specs.Faults.{IsTestFault};
 ghost use Rattle.fs_litmus.specs.Reads.{Reads};
-ghost use Rattle.fs_cert_evidence.specs.Certificate.{Certificate as Said, NoneForbids};
+ghost use Rattle.fs_cert_evidence.specs.Certificate.{Certificate as Said, Cycles, NoneForbids};
 ghost use Rattle.fs_cert_evidence.specs.WitnessFile.{KeepsWitness};
 ghost use Rattle.fs_cert_json.specs.Kept.{KeepsCertificate};
 ghost use Rattle.fs_app_place_order.specs.Place.{IsBadFences};
-ghost use Rattle.fs_app_why.specs.Why.{IsAnswerWhy, IsBadAnswer, IsFirstWhyFault, TellsAllFences, TellsAnswer};
+ghost use Rattle.fs_app_why.specs.Forbidden.{cycles_text};
+ghost use Rattle.fs_app_why.specs.Why.{HasRunFault, IsBadAnswer, IsCertifiedWhy, IsWhyFault, NoWitnessShows};
+ghost use Rattle.fs_app_why.specs.Why.{TellsAllFences, TellsAnswer, TellsFences};
 
+use crate::forbidden::{cycles_text, kinds_by};
 use crate::order::lines_of;
 use crate::possible::why_none;
 use crate::without::fences_text;
 use fs_cert_evidence::WitnessFile;
 use fs_cert_json::{Certificate, CertifiedAnswer};
-use fs_kinds::Fault;
-use fs_litmus::{read_fences, read_test};
+use fs_kinds::{Fault, List, Placement};
+use fs_litmus::{Test, read_fences, read_test};
+use fs_region_ends::ChainKind;
 use std::alloc::Global;
+use std::sync::Arc;
 
 /// The execution beside `none`, if the witness gives one.
 fn none_text(alloc: Global, test: &[u8], file: &WitnessFile) -> Result<String, Fault>
-    ensures told { (w : Witness) (ws : List Witness) → KeepsWitness file.now w → IfOk result (λ text.
-        TellsAnswer test.now NoneForbids (w ∷ ws) (string_bytes text)) }
+    ensures told { (cycles : Cycles) (w : Witness) (ws : Items Witness) → KeepsWitness file.now w → IfOk result (λ text.
+        TellsAnswer test.now NoneForbids cycles (w ∷ ws) (string_bytes text)) }
     ensures fault { IfErr result (λ f. f ≢ Memory → IsTestFault test.now f) }
 {
     match why_none(alloc, test, file)? {
@@ -36,8 +43,8 @@ fn none_text(alloc: Global, test: &[u8], file: &WitnessFile) -> Result<String, F
 
 /// The execution beside `none` that the first of the witnesses gives, if it gives one.
 fn first_text(alloc: Global, test: &[u8], witnesses: &[WitnessFile]) -> Result<String, Fault>
-    ensures told { (ws : List Witness) → AllZip KeepsWitness witnesses.now ws → IfOk result (λ text.
-        TellsAnswer test.now NoneForbids ws (string_bytes text)) }
+    ensures told { (cycles : Cycles) (ws : Items Witness) → AllZip KeepsWitness witnesses.now ws → IfOk result (λ text.
+        TellsAnswer test.now NoneForbids cycles ws (string_bytes text)) }
     ensures fault { IfErr result (λ f. f ≢ Memory → IsTestFault test.now f) }
 {
     match witnesses.first() {
@@ -46,48 +53,74 @@ fn first_text(alloc: Global, test: &[u8], witnesses: &[WitnessFile]) -> Result<S
     }
 }
 
-/// What is told of the fences that these words name, of each an execution without it that one of the witnesses gives.
-fn all_fences_text(
+/// What is told of fences: why these rule the outcome out, and what each is for.
+fn told_text(
+    alloc: Global,
+    test: &Test,
+    lines: &[List<usize>],
+    placement: &Placement,
+    certificate: &Certificate,
+    kinds: &[ChainKind],
+) -> Result<String, Fault>
+    requires { IsTest test.now }
+    ensures told { (c : Said) → KeepsCertificate certificate.now c → IfOk result (λ text. (fences : Items ℕ)
+        × TellsFences test.now lines.now kinds.now c.witnesses (NoWitnessShows test.now c.witnesses) placement.now
+        placement.now fences
+        × (string_bytes text ≡ cycles_text test.now lines.now c.cycles kinds.now ++ fences)) }
+    ensures err { IsOkUnless result Memory }
+{
+    let mut text = cycles_text(alloc, test, lines, &certificate.cycles, kinds)?;
+    let files = certificate.witnesses.as_slice();
+    let fences = fences_text(alloc, test, lines, kinds, placement, files)?;
+    text.push_str(fences.as_str())?;
+    Ok(text)
+}
+
+/// What is told of the fences that these words name.
+fn fenced_text(
     alloc: Global,
     test: &[u8],
     fences: &[String],
-    witnesses: &[WitnessFile],
+    certificate: &Certificate,
 ) -> Result<String, Fault>
-    ensures told { (ws : List Witness) → AllZip KeepsWitness witnesses.now ws → IfOk result (λ text.
-        TellsAllFences test.now (map string_bytes fences.now) ws (string_bytes text)) }
-    ensures fault { IfErr result (λ f. f ≢ Memory → IsTestFault test.now f
-        ⊎ ((f ≡ BadFence) × ((t : Test) × Reads test.now t × IsBadFences None t (map string_bytes fences.now)))) }
+    ensures told { (c : Said) → KeepsCertificate certificate.now c → IfOk result (λ text.
+        TellsAllFences test.now (map string_bytes fences.now) c.cycles c.witnesses (string_bytes text)) }
+    ensures fault { IfErr result (λ f. f ≢ Memory → HasRunFault test.now f ⊎ (IsTestFault test.now f
+        ⊎ ((f ≡ BadFence) × ((t : Tests) × Reads test.now t × IsBadFences None t (map string_bytes fences.now))))) }
 {
     let read = read_test(alloc, test)?;
     let lines = lines_of(alloc, test)?;
     let placement = read_fences(alloc, &read, None, fences)?;
-    fences_text(alloc, &read, &lines, &placement, witnesses)
+    let read = Arc::new(alloc, read)?;
+    let kinds = kinds_by(alloc, &read, &placement, &certificate.cycles)?;
+    told_text(alloc, &read, &lines, &placement, certificate, &kinds)
 }
 
 /// What is told of the answer that the certificate says.
 fn answer_text(alloc: Global, test: &[u8], certificate: &Certificate) -> Result<String, Fault>
     ensures told { (c : Said) → KeepsCertificate certificate.now c → IfOk result (λ text.
-        TellsAnswer test.now c.answer c.witnesses (string_bytes text)) }
+        TellsAnswer test.now c.answer c.cycles c.witnesses (string_bytes text)) }
     ensures fault { (c : Said) → KeepsCertificate certificate.now c → IfErr result (λ f. f ≢ Memory
-        → IsTestFault test.now f ⊎ ((f ≡ BadFence) × IsBadAnswer test.now c.answer)) }
+        → HasRunFault test.now f ⊎ (IsTestFault test.now f ⊎ ((f ≡ BadFence) × IsBadAnswer test.now c.answer))) }
 {
-    let witnesses = certificate.witnesses.as_slice();
     match &certificate.answer {
-        CertifiedAnswer::NoneForbids => first_text(alloc, test, witnesses),
+        CertifiedAnswer::NoneForbids => first_text(alloc, test, certificate.witnesses.as_slice()),
         CertifiedAnswer::Fenced { fences, .. } => {
-            all_fences_text(alloc, test, fences.as_slice(), witnesses)
+            fenced_text(alloc, test, fences.as_slice(), certificate)
         }
     }
 }
 
-/// What is told of the answer of a certificate: of `none` an execution of the test with `rw,rw` in every slot, of which
-/// the first witness has the runs, sources and coherence orders; of each fence such an execution without it, of the
-/// first witness that has one, or none where no witness has one. The faults are `BadCertificate`, those of `read_test`,
-/// and `BadFence` where a word names no slot of the test. The cost is that of `why_allowed`, for each fence and each
-/// witness, and linear in the certificate.
-pub fn why_answer(alloc: Global, test: &[u8], certificate: &[u8]) -> Result<String, Fault>
-    ensures told { IfOk result (λ text. IsAnswerWhy test.now certificate.now (string_bytes text)) }
-    ensures fault { IfErr result (IsFirstWhyFault test.now certificate.now) }
+/// What is told of the answer of a certificate. Of fences why they rule the outcome out: the ends of its refutation as
+/// chains of operations, those that are the same but for the harts together, and nothing of a list of cycles; then of
+/// each fence in which of these it is needed, and an execution without it, of the first witness that has one, or none
+/// where no witness has one. Of `none` an execution of the test with `rw,rw` in every slot, of which the first witness
+/// has the runs, sources and coherence orders. The faults are `BadCertificate`, those of `read_test`, `BadFence` where
+/// a word names no slot of the test, and those of `Basis::new`. The cost is that of `kinds_by` and `cycles_text`, that
+/// of `why_allowed` for each fence and each witness, and linear in the certificate.
+pub fn why_certified(alloc: Global, test: &[u8], certificate: &[u8]) -> Result<String, Fault>
+    ensures told { IfOk result (λ text. IsCertifiedWhy test.now certificate.now (string_bytes text)) }
+    ensures fault { IfErr result (IsWhyFault test.now certificate.now) }
 {
     let certificate = Certificate::from_bytes(alloc, certificate)?;
     answer_text(alloc, test, &certificate)

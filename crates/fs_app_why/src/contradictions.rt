@@ -9,7 +9,9 @@ ghost use Rattle.fs_model.specs.Numbers.{is_same, numbers_below};
 ghost use Rattle.fs_model.specs.Forms.{is_loading, is_storing};
 ghost use Rattle.fs_app_why.specs.Arrows.{instr_named};
 ghost use Rattle.fs_app_why.specs.Contradictions.{again, also_text, amo_text, bare_text, below_by, chain_text};
-ghost use Rattle.fs_app_why.specs.Contradictions.{contradictions_text, does_by, does_known, does_there, end_text};
+ghost use Rattle.fs_app_why.specs.Contradictions.{contradictions_text, count_more, cycles_piece, does_by, does_known};
+ghost use Rattle.fs_app_why.specs.Contradictions.{does_there, end_text, in_text, is_more, is_sole, is_sole_in};
+ghost use Rattle.fs_app_why.specs.Contradictions.{joined_pieces, more_piece, number_if, numbers_with};
 ghost use Rattle.fs_app_why.specs.Contradictions.{fence_key, halves_amo, halves_by, halves_told, has_fence, has_key};
 ghost use Rattle.fs_app_why.specs.Contradictions.{has_new, headed, heading_of, initial_text, is_bare};
 ghost use Rattle.fs_app_why.specs.Contradictions.{is_key_among, is_new_by, is_text, is_told, is_told_after};
@@ -23,7 +25,7 @@ use crate::arrows::{arrow_text, counts_before, counts_behind, if_amo, instr_name
 use crate::rows::{line_cell, name_cell};
 use crate::table::{Row, table_text};
 use crate::without::instr_text;
-use crate::words::word_text;
+use crate::words::{and_joined, word_text};
 use fs_app_test::value_text;
 use fs_instr::Instr;
 use fs_kinds::{List, OperationName};
@@ -621,4 +623,123 @@ pub(crate) fn contradictions_text(
         rest.as_str(),
         amo_text(test, kinds)
     )
+}
+
+// ---- in which of them a fence is needed
+
+fn is_sole_in(chain: &Chain, key: u32) -> bool
+    ensures { result ≡ is_sole_in key chain.now }
+{
+    chain.links.iter().any(|link| is_key(link.sole, key))
+}
+
+/// Does the fence of this number alone order two operations, in a chain of the kind?
+fn is_sole(kind: &ChainKind, key: u32) -> bool
+    ensures { result ≡ is_sole key kind.now }
+{
+    kind.instances.iter().any(|chain| is_sole_in(chain, key))
+}
+
+/// Appends the number of the kind, if it is told and the fence is needed there.
+fn push_number(
+    alloc: Global,
+    kinds: &[ChainKind],
+    key: u32,
+    number: usize,
+    kind: &ChainKind,
+    numbers: &mut Vec<Name>,
+) -> Result<(), AllocError>
+    requires { number < length kinds.now }
+    ensures { OnOk result (numbers.new.items ≡ numbers.old.items ++ number_if kinds.now key (number, kind.now)) }
+{
+    if is_told(kinds, number) && is_sole(kind, key) {
+        let told = number + 1;
+        numbers.push(Name::new(format!(in alloc; "{}", told)?))?;
+    }
+    Ok(())
+}
+
+/// The numbers of the kinds that are told in which the fence is needed.
+fn numbers_with(alloc: Global, kinds: &[ChainKind], key: u32) -> Result<Vec<Name>, AllocError>
+    ensures { IfOk result (λ numbers. numbers.items ≡ numbers_with kinds.now key) }
+{
+    let mut numbers = Vec::new(alloc);
+    for (number, kind) in kinds.iter().enumerate() {
+        push_number(alloc, kinds, key, number, kind, &mut numbers)?;
+    }
+    Ok(numbers)
+}
+
+fn is_more(kinds: &[ChainKind], key: u32, number: usize) -> bool
+    ensures { result ≡ is_more kinds.now key number }
+{
+    number < kinds.len() && (!is_told(kinds, number) && is_sole(&kinds[number], key))
+}
+
+/// How many kinds that aren't told the fence is needed in.
+fn count_more(kinds: &[ChainKind], key: u32) -> usize
+    ensures { result ≡ count_more kinds.now key }
+{
+    (0..kinds.len())
+        .filter(|number| is_more(kinds, key, *number))
+        .count()
+}
+
+fn cycles_word(count: usize) -> &'static str
+    ensures { result.now ≡ (if count == 1 then codes "cycle " else codes "cycles ") }
+{
+    if count == 1 { "cycle " } else { "cycles " }
+}
+
+fn push_cycles(alloc: Global, numbers: &[Name], pieces: &mut Vec<Name>) -> Result<(), AllocError>
+    ensures { OnOk result (pieces.new.items ≡ pieces.old.items ++ cycles_piece numbers.now) }
+{
+    if numbers.is_empty() {
+        return Ok(());
+    }
+    let joined = and_joined(alloc, numbers)?;
+    let word = cycles_word(numbers.len());
+    pieces.push(Name::new(format!(in alloc; "{}{}", word, joined.as_str())?))?;
+    Ok(())
+}
+
+fn more_word(count: usize) -> &'static str
+    ensures { result.now ≡ (if count == 1 then codes " more kind" else codes " more kinds") }
+{
+    if count == 1 {
+        " more kind"
+    } else {
+        " more kinds"
+    }
+}
+
+fn push_more(alloc: Global, count: usize, pieces: &mut Vec<Name>) -> Result<(), AllocError>
+    ensures { OnOk result (pieces.new.items ≡ pieces.old.items ++ more_piece count) }
+{
+    if count == 0 {
+        return Ok(());
+    }
+    pieces.push(Name::new(format!(in alloc; "{}{}", count, more_word(count))?))?;
+    Ok(())
+}
+
+fn joined_pieces(alloc: Global, pieces: &[Name]) -> Result<String, AllocError>
+    ensures { IfOk result (λ text. string_bytes text ≡ joined_pieces pieces.now) }
+{
+    if pieces.is_empty() {
+        return Ok(String::new(alloc));
+    }
+    let joined = and_joined(alloc, pieces)?;
+    format!(in alloc; ": in {}", joined.as_str())
+}
+
+/// In which of the kinds the fence of this number is needed: the numbers of those that are told, and how many others.
+pub(crate) fn in_text(alloc: Global, kinds: &[ChainKind], key: u32) -> Result<String, AllocError>
+    ensures { IfOk result (λ text. string_bytes text ≡ in_text kinds.now key) }
+{
+    let numbers = numbers_with(alloc, kinds, key)?;
+    let mut pieces = Vec::new(alloc);
+    push_cycles(alloc, &numbers, &mut pieces)?;
+    push_more(alloc, count_more(kinds, key), &mut pieces)?;
+    joined_pieces(alloc, &pieces)
 }

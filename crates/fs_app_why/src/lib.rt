@@ -1,6 +1,6 @@
 //! What `--why` prints, from the bytes of the files to its text: an execution as it comes to memory, with the
-//! operations that overtake others of their hart; and why fences rule the outcome out, the contradictions of a
-//! certificate as chains of operations.
+//! operations that overtake others of their hart; and why the outcome is ruled out, by the fences of a certificate or
+//! in a test as it is written, the contradictions as chains of operations.
 #![tactic(auto)]
 
 mod alike;
@@ -15,14 +15,14 @@ mod order;
 mod possible;
 mod relation;
 mod rows;
+mod ruled_out;
 mod table;
 mod told;
 mod trace;
-mod whole;
 mod without;
 mod words;
 
-pub use answered::why_answer;
+pub use answered::why_certified;
 pub use order::why_order;
 pub use possible::why_allowed;
-pub use whole::why_certified;
+pub use ruled_out::why_forbidden;

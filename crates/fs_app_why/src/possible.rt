@@ -19,8 +19,8 @@ use fs_kinds::{Fault, List, OperationName, Placement};
 use fs_litmus::{Test, read_test, slots};
 use std::alloc::Global;
 
-/// No fence in any slot of the test.
-fn no_fences(alloc: Global, test: &Test) -> Result<Placement, Fault>
+/// No fence in any slot of the test. The error is F19.
+pub(crate) fn no_fences(alloc: Global, test: &Test) -> Result<Placement, Fault>
     requires { IsBounded test.now }
     ensures ok { IfOk result (λ placement. placement ≡ no_fences test.now) }
     ensures err { IsOkUnless result Memory }

@@ -13,9 +13,13 @@ ghost use Rattle.fs_cert_evidence.specs.WitnessFile.{KeepsWitness};
 ghost use Rattle.fs_check.specs.Ordered.{IsOrdered, execution_in};
 ghost use Rattle.fs_app_why.specs.inner.Told.{IsOfFirst, NoneShows};
 ghost use Rattle.fs_app_why.specs.Traces.{trace_text};
-ghost use Rattle.fs_app_why.specs.Why.{NoWitnessShows, TellsEntry, TellsFences, TellsWithout, fence_line, instr_at};
-ghost use Rattle.fs_app_why.specs.Why.{without_heading};
+ghost use Rattle.fs_region_ends.specs.declared.fences.Fence.TheVariants.{Placed};
+ghost use Rattle.fs_region_ends.specs.Kinds.{ChainKind as Kinds};
+ghost use Rattle.fs_app_why.specs.Contradictions.{fence_key, in_text};
+ghost use Rattle.fs_app_why.specs.Why.{NoWitnessShows, TellsFences, TellsFirst, TellsWithout, fence_line, head_text};
+ghost use Rattle.fs_app_why.specs.Why.{instr_at, named_text, without_heading};
 
+use crate::contradictions::{fence_key, in_text};
 use crate::nearer::nearer;
 use crate::trace::trace_text;
 use crate::words::line_of;
@@ -24,6 +28,7 @@ use fs_check::OrderedCandidate;
 use fs_instr::{Instr, write_instr};
 use fs_kinds::{Entry, Fault, Kind, List, OperationName, Placement, Slot};
 use fs_litmus::Test;
+use fs_region_ends::{ChainKind, Fence};
 use std::alloc::{AllocError, Global};
 
 /// The placement with no fence in the slot.
@@ -91,15 +96,15 @@ fn instruction(alloc: Global, test: &Test, slot: Slot) -> Result<String, AllocEr
     }
 }
 
-/// The line that says which fence it is, as `w,w before P0:3 (line 13, sw x7,0(x8))`.
-fn fence_line(
+/// Which fence it is, as `w,w before P0:3 (line 13, sw x7,0(x8))`.
+fn named_text(
     alloc: Global,
     test: &Test,
     lines: &[List<usize>],
     slot: Slot,
     kind: Kind,
 ) -> Result<String, AllocError>
-    ensures { IfOk result (λ text. string_bytes text ≡ fence_line test.now lines.now slot kind) }
+    ensures { IfOk result (λ text. string_bytes text ≡ named_text test.now lines.now slot kind) }
 {
     let name = OperationName {
         hart: slot.hart,
@@ -108,12 +113,57 @@ fn fence_line(
     let line = line_of(lines, name);
     let instr = instruction(alloc, test, slot)?;
     format!(in alloc;
-        "\n{} before {} (line {}, {})\n",
+        "\n{} before {} (line {}, {})",
         kind.name(),
         slot,
         line,
         instr.as_str()
     )
+}
+
+/// In which of the kinds the fence is needed.
+fn kinds_text(
+    alloc: Global,
+    kinds: &[ChainKind],
+    slot: Slot,
+    kind: Kind,
+) -> Result<String, AllocError>
+    ensures { IfOk result (λ text. string_bytes text ≡ in_text kinds.now (fence_key (Placed slot kind))) }
+{
+    in_text(alloc, kinds, fence_key(Fence::Placed { slot, kind }))
+}
+
+/// The line of the fence, as that with `: in cycles 1 and 2` behind it.
+fn fence_line(
+    alloc: Global,
+    test: &Test,
+    lines: &[List<usize>],
+    kinds: &[ChainKind],
+    slot: Slot,
+    kind: Kind,
+) -> Result<String, AllocError>
+    ensures { IfOk result (λ text. string_bytes text ≡ fence_line test.now lines.now kinds.now slot kind) }
+{
+    let named = named_text(alloc, test, lines, slot, kind)?;
+    let cycles = kinds_text(alloc, kinds, slot, kind)?;
+    format!(in alloc; "{}{}\n", named.as_str(), cycles.as_str())
+}
+
+/// The same of a slot, if there is a fence in it.
+fn head_text(
+    alloc: Global,
+    test: &Test,
+    lines: &[List<usize>],
+    kinds: &[ChainKind],
+    entry: Entry,
+) -> Result<String, AllocError>
+    ensures { IfOk result (λ text. string_bytes text
+        ≡ head_text test.now lines.now kinds.now entry.slot entry.kind) }
+{
+    match entry.kind {
+        Some(kind) => fence_line(alloc, test, lines, kinds, entry.slot, kind),
+        None => Ok(String::new(alloc)),
+    }
 }
 
 /// The execution without the fence, below a line that says so.
@@ -133,36 +183,34 @@ fn shown_text(
     format!(in alloc; "Without it, in the order of memory:\n{}", trace.as_str())
 }
 
-/// What is told of the fence of this kind in the slot.
-fn fence_text(
+/// What is told of the test without the fence in the slot.
+fn first_text(
     alloc: Global,
     test: &Test,
     lines: &[List<usize>],
     placement: &Placement,
     files: &[WitnessFile],
-    fence: (Slot, Kind),
+    slot: Slot,
 ) -> Result<String, Fault>
     requires test { IsTest test.now }
-    requires there { IsTrue (has_slot fence.0 placement.now) }
-    ensures told { (ws : Items Witness) → AllZip KeepsWitness files.now ws → IfOk result (λ text.
-        TellsWithout test.now lines.now ws (NoWitnessShows test.now ws) placement.now fence.0 fence.1
+    requires there { IsTrue (has_slot slot placement.now) }
+    ensures told { (kinds : Items Kinds) (ws : Items Witness) → AllZip KeepsWitness files.now ws → IfOk result (λ text.
+        TellsFirst test.now lines.now kinds ws (NoWitnessShows test.now ws) placement.now slot
         (string_bytes text)) }
     ensures err { IsOkUnless result Memory }
 {
-    let mut text = fence_line(alloc, test, lines, fence.0, fence.1)?;
-    let other = without(placement, fence.0)?;
-    match first_shown(alloc, test, &other, fence.0, files)? {
+    let other = without(placement, slot)?;
+    match first_shown(alloc, test, &other, slot, files)? {
         Some(shown) => {
             let told = shown_text(alloc, test, lines, &shown)?;
-            text.push_str(told.as_str())?;
-            Ok(text)
+            Ok(told)
         }
-        None => Ok(text),
+        None => Ok(String::new(alloc)),
     }
 }
 
-/// What is told of the fence in the slot, if there is one.
-fn entry_text(
+/// The same of a slot, if there is a fence in it.
+fn without_text(
     alloc: Global,
     test: &Test,
     lines: &[List<usize>],
@@ -172,34 +220,38 @@ fn entry_text(
 ) -> Result<String, Fault>
     requires test { IsTest test.now }
     requires there { IsTrue (has_slot entry.slot placement.now) }
-    ensures told { (ws : Items Witness) → AllZip KeepsWitness files.now ws → IfOk result (λ text.
-        TellsEntry test.now lines.now ws (NoWitnessShows test.now ws) placement.now entry (string_bytes text)) }
+    ensures told { (kinds : Items Kinds) (ws : Items Witness) → AllZip KeepsWitness files.now ws → IfOk result (λ text.
+        TellsWithout test.now lines.now kinds ws (NoWitnessShows test.now ws) placement.now entry.slot entry.kind
+        (string_bytes text)) }
     ensures err { IsOkUnless result Memory }
 {
     match entry.kind {
-        Some(kind) => fence_text(alloc, test, lines, placement, files, (entry.slot, kind)),
+        Some(_) => first_text(alloc, test, lines, placement, files, entry.slot),
         None => Ok(String::new(alloc)),
     }
 }
 
-/// What is told of each fence, in the order of their slots: where one of the witnesses shows the outcome without it, an
-/// execution of the first that does. The error is F19.
+/// What is told of each fence, in the order of their slots: which of these kinds of contradictions it is in, and where
+/// one of the witnesses shows the outcome without it, an execution of the first that does. The error is F19.
 pub(crate) fn fences_text(
     alloc: Global,
     test: &Test,
     lines: &[List<usize>],
+    kinds: &[ChainKind],
     placement: &Placement,
     files: &[WitnessFile],
 ) -> Result<String, Fault>
     requires { IsTest test.now }
     ensures told { (ws : Items Witness) → AllZip KeepsWitness files.now ws → IfOk result (λ text.
-        TellsFences test.now lines.now ws (NoWitnessShows test.now ws) placement.now placement.now
+        TellsFences test.now lines.now kinds.now ws (NoWitnessShows test.now ws) placement.now placement.now
         (string_bytes text)) }
     ensures err { IsOkUnless result Memory }
 {
     let mut text = String::new(alloc);
     for entry in placement.as_slice() {
-        let told = entry_text(alloc, test, lines, placement, files, *entry)?;
+        let head = head_text(alloc, test, lines, kinds, *entry)?;
+        let told = without_text(alloc, test, lines, placement, files, *entry)?;
+        text.push_str(head.as_str())?;
         text.push_str(told.as_str())?;
     }
     Ok(text)

@@ -2,7 +2,7 @@ use Rattle.std.proofs.Common.{Err, ap}
 use Rattle.std.proofs.lemmas.Result.{IfErr-weaker, IfOk-weaker}
 use Rattle.fs_app_place_order.proofs.Faults.{IfErr-handed}
 use Rattle.fs_app_why.proofs.Faults.{why_answered, why_certificate}
-use Rattle.fs_app_why.proofs.answered.why_answer.Goals as goal
+use Rattle.fs_app_why.proofs.answered.why_certified.Goals as goal
 
 pub returns-clause-told : goal.returns-clause-told
 returns-clause-told c =

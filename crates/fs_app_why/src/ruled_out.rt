@@ -1,0 +1,120 @@
+//! Why a test forbids its outcome as it is written.
+
+ghost use Rattle.std.specs.Prelude.{◌≡◌, ◌≢◌, ◌⊎◌, List as Items, IfOk, IfErr, IfSome, IfNone, map, string_bytes};
+ghost use Rattle.std.specs.Arc.{arc_value};
+ghost use Rattle.fs_kinds.specs.declared.fault.Fault.TheVariants.{Memory};
+ghost use Rattle.fs_model.specs.Allows.{Allows};
+ghost use Rattle.fs_model.specs.Test.{IsTest};
+ghost use Rattle.fs_model.specs.TooMany.{IsRunFault};
+ghost use Rattle.fs_litmus.specs.Faults.{IsTestFault};
+ghost use Rattle.fs_cert_evidence.specs.CandidateFaults.{IsCandidateFault};
+ghost use Rattle.fs_cert_evidence.specs.Certificate.{Inferred};
+ghost use Rattle.fs_cert_evidence.specs.Inferences.{cycles_of, inference_of};
+ghost use Rattle.fs_cert_evidence.specs.Valid.{Forbid};
+ghost use Rattle.fs_judge.specs.Verdicts.{IsVerdict};
+ghost use Rattle.fs_region_ends.specs.Kinds.{ChainKind as Kinds};
+ghost use Rattle.fs_app_why.specs.Contradictions.{contradictions_text};
+ghost use Rattle.fs_app_why.specs.Forbidden.{AreKinds};
+ghost use Rattle.fs_app_why.specs.Why.{HasCandidateFault, IsAllowed, IsForbiddenWhy, TellsForbidden};
+
+use crate::contradictions::contradictions_text;
+use crate::forbidden::inferred_kinds;
+use crate::order::lines_of;
+use crate::possible::no_fences;
+use fs_cert_evidence::{Cycles, Inference};
+use fs_judge::{Problem, Verdict};
+use fs_kinds::{Fault, List, Placement};
+use fs_litmus::{Test, read_test};
+use std::alloc::Global;
+use std::sync::Arc;
+
+/// The contradictions to which the inferences come.
+fn inferred_text(
+    alloc: Global,
+    test: &Arc<Test>,
+    lines: &[List<usize>],
+    placement: &Placement,
+    inferences: &[Inference],
+) -> Result<String, Fault>
+    requires { IsTest (arc_value test.now) }
+    ensures told { IfOk result (λ text. (kinds : Items Kinds)
+        × AreKinds (arc_value test.now) placement.now (Inferred (map inference_of inferences.now)) kinds
+        × (string_bytes text ≡ contradictions_text (arc_value test.now) lines.now kinds)) }
+    ensures err { IfErr result (λ f. f ≢ Memory → IsRunFault (arc_value test.now) f) }
+{
+    let kinds = inferred_kinds(alloc, test, placement, inferences)?;
+    let text = contradictions_text(alloc, test, lines, &kinds)?;
+    Ok(text)
+}
+
+/// The contradictions of what shows that the outcome is forbidden: of a list of cycles nothing.
+fn shown_text(
+    alloc: Global,
+    test: &Arc<Test>,
+    lines: &[List<usize>],
+    placement: &Placement,
+    cycles: &Cycles,
+) -> Result<String, Fault>
+    requires test { IsTest (arc_value test.now) }
+    requires shows { Forbid (arc_value test.now) placement.now (cycles_of cycles.now) }
+    ensures told { IfOk result (λ text.
+        TellsForbidden (arc_value test.now) lines.now placement.now (string_bytes text)) }
+    ensures err { IfErr result (λ f. f ≢ Memory → IsRunFault (arc_value test.now) f) }
+{
+    match cycles {
+        Cycles::Listed(_) => Ok(String::new(alloc)),
+        Cycles::Inferred(inferences) => {
+            inferred_text(alloc, test, lines, placement, inferences.as_slice())
+        }
+    }
+}
+
+/// The verdict on the test with these fences: that of a judge that has judged nothing.
+fn verdict_on(alloc: Global, test: &Arc<Test>, placement: &Placement) -> Result<Verdict, Fault>
+    requires { IsTest (arc_value test.now) }
+    ensures ok { IfOk result (IsVerdict (arc_value test.now) placement.now) }
+    ensures err { IfErr result (λ f. f ≢ Memory → IsCandidateFault (arc_value test.now) f) }
+{
+    let problem = Problem::new(alloc, Arc::try_clone(test)?)?;
+    problem.judged(alloc, placement, &[])
+}
+
+/// Why the test forbids its outcome with these fences; none where it allows it.
+fn forbidden_text(
+    alloc: Global,
+    test: &Arc<Test>,
+    lines: &[List<usize>],
+    placement: &Placement,
+) -> Result<Option<String>, Fault>
+    requires { IsTest (arc_value test.now) }
+    ensures some { IfOk result (λ found. IfSome found (λ text.
+        TellsForbidden (arc_value test.now) lines.now placement.now (string_bytes text))) }
+    ensures none { IfOk result (λ found. IfNone found (Allows (arc_value test.now) placement.now)) }
+    ensures err { IfErr result (λ f. f ≢ Memory → IsCandidateFault (arc_value test.now) f) }
+{
+    let verdict = verdict_on(alloc, test, placement)?;
+    match verdict {
+        Verdict::Forbids(forbidden) => {
+            let text = shown_text(alloc, test, lines, placement, &forbidden.cycles)?;
+            Ok(Some(text))
+        }
+        Verdict::Allowed(_) => Ok(None),
+    }
+}
+
+/// What is told of a test that forbids its outcome as it is written: the ends of a refutation as chains of operations,
+/// those that are the same but for the harts together; nothing where a list of candidates shows it. None where an
+/// execution shows the outcome. The test is judged once more, as `judge_test` of fs_app_test does. The faults are those
+/// of `read_test`, of `Problem::new` and of `Problem::judged`. The cost is that of these three, of `chains` and
+/// `kinds_of` of fs_region_ends, and of `contradictions_text`.
+pub fn why_forbidden(alloc: Global, test: &[u8]) -> Result<Option<String>, Fault>
+    ensures some { IfOk result (λ found. IfSome found (λ text. IsForbiddenWhy test.now (string_bytes text))) }
+    ensures none { IfOk result (λ found. IfNone found (IsAllowed test.now)) }
+    ensures fault { IfErr result (λ f. f ≢ Memory → HasCandidateFault test.now f ⊎ IsTestFault test.now f) }
+{
+    let read = read_test(alloc, test)?;
+    let lines = lines_of(alloc, test)?;
+    let placement = no_fences(alloc, &read)?;
+    let read = Arc::new(alloc, read)?;
+    forbidden_text(alloc, &read, &lines, &placement)
+}
