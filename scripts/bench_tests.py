@@ -116,9 +116,9 @@ def of_table(name):
     return found
 
 
-def families():
-    """The texts of all tests that grow, by their names."""
-    return {name: text for name, (text, _) in of_table('grown').items()}
+def texts_of(table):
+    """The texts of the tests of a stored table, by their names."""
+    return {name: text for name, (text, _) in of_table(table).items()}
 
 
 def at_least(count, atoms):
@@ -143,16 +143,11 @@ def votes(pairs, least, spare):
 
 def long_searches():
     """The texts of tests whose search takes long with one worker, by their names."""
-    grown = families()
+    grown = texts_of('grown')
     names = 'SB-7-4 SB-8-0 LB-7-4 MP-7-4 2+2W-7-4 IRIW-4 stores-7 stores-8 loads-12 loads-14 rounds-3'.split()
     numbers = [(3, 2, 0), (3, 2, 3), (3, 2, 6), (4, 2, 0), (4, 2, 2), (4, 2, 6), (4, 2, 8), (4, 3, 0), (4, 3, 2),
                (4, 3, 4), (4, 3, 8), (4, 3, 12)]
     return {name: grown[name] for name in names} | {'votes-%d-%d-%d' % each: votes(*each) for each in numbers}
-
-
-def long_hunts():
-    """The texts of tests in which one hunt is long, by their names."""
-    return {name: text for name, (text, _) in of_table('hunts').items()}
 
 
 PARTS = {'⏎': '\n', 'HEAD': 'RISCV T\n', 'BODY': '{ 0:x6=x; }\nP0 ;\nlw x5,0(x6) ;\n', 'TAIL': 'exists (0:x5=0)\n'}

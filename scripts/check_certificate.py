@@ -20,6 +20,7 @@ import sys
 import typing
 
 WORDS = 2 ** 32
+MOST_RUNS = 100000                  # of a hart
 
 
 class Unreadable(Exception):
@@ -27,7 +28,7 @@ class Unreadable(Exception):
 
 
 class Fault(Unreadable):
-    """The fault of a test or of a price list, as its line says it."""
+    """The fault of a test, of its runs or of a price list, as its line says it."""
 
 
 class NotACertificate(Exception):
@@ -65,8 +66,7 @@ ESCAPE = re.compile('%s%s|(?P<half>%s)|%s' % (HALF % '89abAB', HALF % 'c-fC-F', 
 
 def json_of(data):
     """The value that these bytes write, RFC 8259 in UTF-8; of a doubled key the last one counts. None, as of `null`,
-    where they are no such text, or one that is nested too deep, also for Python. Half a surrogate pair is no text,
-    wherever it stands; Python would take it."""
+    where they are no such text, as half a surrogate pair isn't, which Python takes; or one that is nested too deep."""
     try:
         text = data.decode('utf-8')
         is_text = not any(escape['half'] for escape in ESCAPE.finditer(text))
@@ -113,9 +113,7 @@ ALL_PAIRS = ['RR', 'RW', 'WR', 'WW']
 
 REGISTER_NAMES = ('zero ra sp gp tp t0 t1 t2 s0 s1 a0 a1 a2 a3 a4 a5 a6 a7 '
                   's2 s3 s4 s5 s6 s7 s8 s9 s10 s11 t3 t4 t5 t6').split()
-REGISTERS = {'fp': 8}
-for _number, _name in enumerate(REGISTER_NAMES):
-    REGISTERS.update({_name: _number, 'x%d' % _number: _number})
+REGISTERS = {'fp': 8, **{name: at for at, short in enumerate(REGISTER_NAMES) for name in (short, 'x%d' % at)}}
 
 
 def signed(word):
@@ -251,8 +249,9 @@ def take_operand(operand, words, made):
             setattr(made, {'d': 'rd', 'a': 'address', 'v': 'data'}[operand], register)
         return register is not None and (operand != 'z' or register == 0)
     if operand == 'l':
-        made.label = word
-        return is_name(word)
+        is_numbered = re.fullmatch('[0-9]+[fb]', word) and number_of(word[:-1]) < WORDS
+        made.label = word.removesuffix('f') if is_numbered else word
+        return is_numbered or is_name(word)
     if operand == 'f':
         made.letters += (word,)
         return re.fullmatch('(?=.)i?o?r?w?', word) is not None
@@ -481,7 +480,7 @@ class TestReader:
         code, places, labels = [], [], {}
         for words, lines in cells:
             at = 0
-            while words[at + 1:at + 2] == [':'] and is_name(words[at]):
+            while words[at + 1:at + 2] == [':'] and (is_name(words[at]) or is_number(words[at])):
                 if words[at] in labels:
                     self.faults.append((6, lines[at]))
                 labels.setdefault(words[at], len(code))
@@ -534,6 +533,18 @@ class TestReader:
                 raise Fault('fault F9 TooBig %s' % what)
 
 
+def title_start(text):
+    """Where the first line begins that has more than blanks and comments."""
+    start = depth = 0
+    for found in TOKEN.finditer(text):
+        depth += {'(*': 1, '*)': -1}.get(found[1], 0)
+        if not depth and found[2] == '\n':
+            start = found.end()
+        elif depth < 0 or not depth and found[2]:
+            break
+    return start
+
+
 def test_of(data):
     """The test that these bytes are. Raises its fault, where it has one."""
     if len(data) > 2 ** 20:
@@ -542,9 +553,10 @@ def test_of(data):
         text = data.decode('utf-8')
     except UnicodeDecodeError:
         raise Fault('fault F1 BadUtf8')
-    if not re.match(r'RISCV[ \t\r]+[^ \t\r\n]', text):
+    title = re.compile(r'RISCV[ \t\r]+[^ \t\r\n].*\n?').match(text, title_start(text))
+    if not title:
         raise Fault('fault F2 NotRiscv')
-    block = re.compile(r'^[ \t\r]*\{', re.MULTILINE).search(text, text.find('\n') + 1)
+    block = re.compile(r'^[ \t\r]*\{', re.MULTILINE).search(text, title.end())
     start = block.start() if block else len(text)
     last = text.count('\n') + (not text.endswith('\n'))
     return TestReader(text[start:], text.count('\n', 0, start) + 1, last).read()
@@ -739,21 +751,24 @@ def ends_over(test, hart, words, choices=()):
 
 
 def all_runs_over(test, words):
-    """Of each hart all its runs over these sets."""
-    found = [list(itertools.islice(ends_over(test, hart, words), 100001)) for hart in range(len(test.code))]
-    if any(isinstance(run, GoesAstray) for runs in found for run in runs):
-        raise Unreadable('a run goes astray, so the candidates of the test are not listed')
-    if any(len(runs) > 100000 for runs in found):
-        raise Unreadable('a hart has too many runs')
+    """Of each hart all its runs over these sets. Raises the fault of the first hart that has one."""
+    found = []
+    for hart in range(len(test.code)):
+        found.append(list(itertools.islice(ends_over(test, hart, words), MOST_RUNS + 1)))
+        if len(found[-1]) > MOST_RUNS:
+            raise Fault('fault F13 TooManyTraces')
+        for run in found[-1]:
+            if isinstance(run, GoesAstray):
+                raise Fault('fault F14 Astray P%d:%d' % (hart, run.args[0]))
     return found
 
 
-def value_sets(test, runs_over=all_runs_over):
+def value_sets(test):
     """The words that each location may come to hold, round by round (MODEL 11)."""
     sets = {address: {word} for address, word in test.words.items()}
     for _ in range(sum(instruction.form in ('store', 'sc', 'amo') for code in test.code for instruction in code)):
         wider = {address: set(words) for address, words in sets.items()}
-        for run in itertools.chain.from_iterable(runs_over(test, sets)):
+        for run in itertools.chain.from_iterable(all_runs_over(test, sets)):
             for step in run.steps:
                 if step.stored is not None:
                     wider[step.address].add(step.stored)
@@ -761,6 +776,11 @@ def value_sets(test, runs_over=all_runs_over):
             break
         sets = wider
     return sets
+
+
+def all_runs(test):
+    """Of each hart all its runs over the value sets."""
+    return all_runs_over(test, value_sets(test))
 
 
 # --- Operations (MODEL 2) ----------------------------------------------------------------------------------------
@@ -909,7 +929,7 @@ def keeps_atomicity(order, source, sc):
 
 def candidates(test):
     """All candidates that show the outcome: by choices, then by sources, then by coherence orders."""
-    for runs in itertools.product(*all_runs_over(test, value_sets(test))):
+    for runs in itertools.product(*all_runs(test)):
         operations = Operations(test, runs)
         if operations.have_outcome({}) is False:
             continue
@@ -1099,8 +1119,7 @@ class Refutation:
 
     def __init__(self, test, slots, placement):
         self.test = test
-        self.runs = [[OnlyRun(run, slots, placement) for run in runs]
-                     for runs in all_runs_over(test, value_sets(test))]
+        self.runs = [[OnlyRun(run, slots, placement) for run in runs] for runs in all_runs(test)]
         self.names = test.memory_instructions()
         self.named = {'P%d:%d' % name: name for name in self.names}
 
@@ -1279,7 +1298,7 @@ class Checker:
     def __init__(self, test, prices, certificate):
         self.test, self.prices, self.slots = test, prices, test.slots()
         self.certificate, self.version = certificate, certificate['version']
-        self.execution, self.shows = functools.cache(self.execution), functools.cache(self.shows)
+        self.execution, self.shown = functools.cache(self.execution), functools.cache(self.shown)
         self.answer = self.cost = None
 
     def check(self):
@@ -1359,15 +1378,12 @@ class Checker:
         witnesses = self.certificate['witnesses']
         return execution_of(self.test, witnesses[number]) if number < len(witnesses) else None
 
-    def shows(self, number, placement):
-        """Does this witness show the outcome under this placement?"""
-        execution = self.execution(number)
-        return execution is not None and execution.obeys_axioms(self.slots, placement) and execution.has_outcome()
-
     def shown(self, number, placement):
         """The execution of this witness, which must show the outcome under this placement."""
-        ask(self.shows(number, placement), 'witness %d' % number)
-        return self.execution(number)
+        execution = self.execution(number)
+        ask(execution and execution.obeys_axioms(self.slots, placement) and execution.has_outcome(),
+            'witness %d' % number)
+        return execution
 
     def breaks_of(self, part, execution):
         """The breakable slots of a leaf and an execution, each with the least price of a kind that breaks it there."""

@@ -147,9 +147,9 @@ class Maker:
             if (1 + len(prices.offered)) ** len(test.slots()) > MOST_PLACEMENTS:
                 continue
             try:
-                reference.count_candidates(test, model.all_runs_over(test, reference.sets_of(test)), MOST_CANDIDATES)
+                reference.count_candidates(test, MOST_CANDIDATES)
                 states = self.states(test, prices)
-            except reference.Fault as fault:
+            except model.Fault as fault:
                 if str(fault).startswith('fault F14') and self.chance.random() < 0.1:
                     return self.text(codes, 'exists (true)').encode(), data
                 continue

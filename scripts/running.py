@@ -6,6 +6,7 @@ import concurrent.futures
 import contextlib
 import difflib
 import functools
+import glob
 import json
 import os
 import re
@@ -33,8 +34,7 @@ Said = collections.namedtuple("Said", "out err status")
 
 @functools.cache
 def program():
-    """The program's path, which scripts/program prints. It is proved and built first where it has to be; where it
-    can't be, this run ends with that script's status."""
+    """The program's path, which scripts/program prints; it may build it first, or end this run with its status."""
     found = subprocess.run([f"{TOP}/scripts/program"], stdout=subprocess.PIPE, text=True, check=False)
     if found.returncode:
         sys.exit(found.returncode)
@@ -51,19 +51,17 @@ def ran(command, stdin=subprocess.DEVNULL, seconds=LONGEST, **options):
     with subprocess.Popen(command, **options) as run:
         try:
             out, err = run.communicate(data, waited_for(run.pid, seconds))
-        except BaseException as error:
+        except subprocess.TimeoutExpired as error:
+            return Said("", f"no end, and it waits: {error}", NO_END)
+        finally:
             run.kill()
-            if isinstance(error, subprocess.TimeoutExpired):
-                return Said("", f"no end, and it waits: {error}", NO_END)
-            raise
     if run.returncode == -signal.SIGXCPU:
         return Said("", f"no end in {seconds} seconds of processor time", NO_END)
     return Said(decoded(out), decoded(err), run.returncode)
 
 
 def waited_for(process, seconds):
-    """Gives a process so many seconds of processor time, after which a signal ends it. Returns how long it is waited
-    for by the clock, in seconds, in case it takes none."""
+    """Gives a process so many seconds of processor time, and says how many to wait for it by the clock."""
     if seconds is None:
         return None
     with contextlib.suppress(ProcessLookupError, PermissionError):      # it has ended, or works as another user
@@ -172,9 +170,7 @@ def here(*names):
 
 def tests_of_examples():
     """The paths of the tests below examples/, those known by name before the idioms."""
-    folders = [EXAMPLES, f"{EXAMPLES}/idioms"]
-    paths = [f"{folder}/{name}" for folder in folders for name in sorted(os.listdir(folder))]
-    return [path for path in paths if path.endswith(".litmus")]
+    return [path for folder in (EXAMPLES, f"{EXAMPLES}/idioms") for path in sorted(glob.glob(f"{folder}/*.litmus"))]
 
 
 def transcript(said):

@@ -14,37 +14,7 @@ import operator
 
 import check_certificate as model                               # of this folder
 
-MOST_RUNS = 100000
 MOST_CANDIDATES = 4000000
-
-
-class Fault(Exception):
-    """Why there is no answer, as the line that is printed."""
-
-
-def refuse_runs(test, words):
-    """Raises the first fault of a hart whose loads take these words (MODEL 11). Of runs only their ends are kept."""
-    for hart in range(len(test.code)):
-        ends = [end.args[0] if isinstance(end, model.GoesAstray) else None
-                for end in itertools.islice(model.ends_over(test, hart, words), MOST_RUNS + 1)]
-        if len(ends) > MOST_RUNS:
-            raise Fault('fault F13 TooManyTraces')
-        for position in ends:
-            if position is not None:
-                raise Fault('fault F14 Astray P%d:%d' % (hart, position))
-
-
-def runs_over(test, words):
-    """Of each hart all its runs over these sets, or a fault."""
-    refuse_runs(test, words)
-    return model.all_runs_over(test, words)
-
-
-def sets_of(test):
-    """The value sets; a fault that a round meets is raised before the next round."""
-    sets = model.value_sets(test, runs_over)
-    refuse_runs(test, sets)
-    return sets
 
 
 def accesses_of(run):
@@ -62,17 +32,18 @@ def raw_candidates(test, accesses):
     return math.prod(sources) * math.prod(map(math.factorial, numbers.values()))
 
 
-def count_candidates(test, all_runs, most=MOST_CANDIDATES):
+def count_candidates(test, most=MOST_CANDIDATES):
     """How many raw candidates there are (MODEL 15). Raises a fault where they are, or lists of runs, too many."""
+    all_runs = model.all_runs(test)
     alike = [collections.Counter(map(accesses_of, runs)) for runs in all_runs]
     if math.prod(map(len, all_runs)) > most:
-        raise Fault('fault F15 TooManyCandidates')
+        raise model.Fault('fault F15 TooManyCandidates')
     count = 0
     for chosen in itertools.product(*[each.items() for each in alike]):
         times = math.prod(number for _, number in chosen)
         count += times * raw_candidates(test, list(itertools.chain.from_iterable(accesses for accesses, _ in chosen)))
         if count > most:
-            raise Fault('fault F15 TooManyCandidates')
+            raise model.Fault('fault F15 TooManyCandidates')
     return count
 
 
@@ -176,7 +147,7 @@ class Problem:
 
     def __init__(self, test, prices, most_listed=MOST_CANDIDATES):
         self.test, self.prices, self.slots = test, prices, test.slots()
-        self.raw = count_candidates(test, model.all_runs_over(test, sets_of(test)))
+        self.raw = count_candidates(test)
         self.candidates, self.live = 0, []
         self.is_listed = self.raw <= most_listed
         operations, known = None, {}
@@ -209,7 +180,7 @@ class Problem:
         return 0 if kind is None else self.prices.at(self.slots[at], kind)
 
     def cost(self, placement):
-        return self.prices.cost(self.slots, placement)
+        return sum(self.price(at, kind) for at, kind in enumerate(placement))
 
 
 class Breaks:
@@ -274,6 +245,6 @@ def answer(test, prices):
     try:
         problem = Problem(test, prices)
         placement = solved(problem)
-    except Fault as fault:
+    except model.Fault as fault:
         return '', f'{fault}\n', 2
     return ''.join(f'{line}\n' for line in lines_of(problem, placement)), '', 1 if placement is None else 0

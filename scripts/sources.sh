@@ -1,4 +1,4 @@
-# What the program is built from, and which built program is made of it: the launcher, scripts/program, scripts/release and
+# What the program is built from, and which built program is made of it: the launcher, scripts that build or check crates, and
 # the check of the launcher read this file, with the repository's folder as `top`.
 
 out=$top/crates/rvfence/out

@@ -53,8 +53,8 @@ def is_listed(path, most):
     """Has a test of examples/ so few lists of runs and candidates that scripts/solve_reference.py is asked?"""
     test = model.read(f"{EXAMPLES}/{path}", model.test_of)
     try:
-        reference.count_candidates(test, reference.runs_over(test, reference.sets_of(test)), most)
-    except reference.Fault as fault:
+        reference.count_candidates(test, most)
+    except model.Fault as fault:
         return str(fault) != "fault F15 TooManyCandidates"
     return True
 
@@ -75,11 +75,6 @@ def is_same(test, wanted, found):
     return (none, more, *found[1:]) == ("none", [""], "", 1) and execution is not None and execution.has_outcome()
 
 
-def runs_of(test):
-    """Of each hart all its runs over the value sets."""
-    return model.all_runs_over(test, model.value_sets(test))
-
-
 def stores_of(run):
     """The addresses to which a run stores, each with a word that it stores there."""
     return frozenset((step.address, step.stored) for step in run.steps if step.stored is not None)
@@ -87,7 +82,7 @@ def stores_of(run):
 
 def is_vacuous(test):
     """Is the outcome true with no runs and last words, which these runs store, or else the location begins with?"""
-    ends = [{(tuple(run.registers), stores_of(run)) for run in runs} for runs in runs_of(test)]
+    ends = [{(tuple(run.registers), stores_of(run)) for run in runs} for runs in model.all_runs(test)]
     for each in itertools.product(*ends):
         registers, stored = [end for end, _ in each], frozenset().union(*[stores for _, stores in each])
         words = [[word for place, word in stored if place == address] or [first]

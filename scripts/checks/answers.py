@@ -1,16 +1,14 @@
 """Checks `rvfence solve`, at each price list, and `rvfence states` on the examples: what they print against
-examples/answers/solve.transcripts and states.transcripts. `--write` writes that file anew, and with the answers of
-`solve` the table of docs/ANSWERS.md.
+examples/answers/*.transcripts. `--write` writes that file anew, and with the answers of `solve` the table of
+docs/ANSWERS.md.
 
 What stands there is found by scripts/solve_reference.py and scripts/verdicts.py. These list candidates, so they are
-asked only of tests with at most 100,000 lists of runs and as many candidates, and of states with at most 2,000. The
-other answers are the program's: of `solve` where scripts/check_certificate.py says yes to the certificate beside it,
-of `states` where each execution that it prints is one and ends in the state above it (whether a state is missing isn't
-looked at then).
+asked of tests with at most 100,000 lists of runs and as many candidates, of states with at most 2,000. The other
+answers are the program's: of `solve` where scripts/check_certificate.py says yes to the certificate beside it, of
+`states` where each execution that it prints ends in the state above it (no missing state is looked for then).
 
-A file has for each test and price list the command, as it runs in examples/, what is printed, `[status N]`, and an
-empty line. The second line of an answer `none` is an execution, of which there may be many, so it isn't there: it must
-show the outcome with `rw,rw` in every slot."""
+A file has of each question the command, as it runs in examples/, what is printed, `[status N]`, and an empty line. The
+execution beside `none`, of which there may be many, isn't there: it must show the outcome with `rw,rw` everywhere."""
 import os
 import re
 import tempfile
@@ -67,7 +65,7 @@ def by_reference(command, *words):
         return reference.answer(read_test(words[0]), model.read(f'{EXAMPLES}/{words[1]}', model.prices_of))
     try:
         listing = Listing(read(f'{EXAMPLES}/{words[0]}'))
-    except reference.Fault as fault:
+    except model.Fault as fault:
         return Said('', f'{fault}\n', 2)
     return listing.answer((None,) * len(listing.test.slots()), asked('place', *words).out)
 

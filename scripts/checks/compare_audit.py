@@ -42,6 +42,10 @@ class Cell:
     def __str__(self):
         return f"{self.label} {self.bare}".strip()
 
+    def saying(self, bare):
+        """A cell with the same label."""
+        return Cell(f"{self.label} {bare}".strip())
+
 
 class Columns:
     """A test file as its columns of cells, which can be changed and put together again."""
@@ -57,10 +61,6 @@ class Columns:
         rows = itertools.zip_longest(*self.cells, fillvalue="")
         return "\n".join([*self.above, *[" | ".join(map(str, row)) + " ;" for row in rows], self.condition, ""])
 
-    def lines(self):
-        """Of each instruction its line, hart by hart."""
-        return [[line for line, cell in enumerate(column, len(self.above) + 1) if cell.bare] for column in self.cells]
-
     def changed(self, change):
         """The columns with each cell as `change` has it, which may be nothing."""
         made = copy.copy(self)
@@ -69,11 +69,15 @@ class Columns:
 
     def without_fences(self):
         """Without fences, but for those that name devices; labels stay."""
-        return self.changed(lambda cell: Cell(cell.label) if cell.is_taken else cell)
+        return self.changed(lambda cell: cell.saying("") if cell.is_taken else cell)
 
     def eased(self):
         """With no fence that names devices and orders memory."""
-        return self.changed(lambda cell: Cell(f"{cell.label} {EASED}".strip()) if cell.stays else cell)
+        return self.changed(lambda cell: cell.saying(EASED) if cell.stays else cell)
+
+    def harts(self):
+        codes, above = model.test_of(self.text().encode()).code, len(self.above)
+        return [Hart(number, column, above, code) for number, (column, code) in enumerate(zip(self.cells, codes))]
 
 
 def made(number):
@@ -100,10 +104,10 @@ def made(number):
 class Hart:
     """The code of a hart with its fences."""
 
-    def __init__(self, number, column, instructions):
+    def __init__(self, number, column, above, instructions):
         self.number, self.cells = number, [cell for cell in column if cell.bare]
-        above = [Cell(""), *column]
-        labelled = [LABEL in (cell.label, str(last)) for last, cell in zip(above, column) if cell.bare]
+        self.lines = [line for line, cell in enumerate(column, above + 1) if cell.bare]
+        labelled = [LABEL in (cell.label, str(last)) for last, cell in zip([Cell(""), *column], column) if cell.bare]
         is_used = any(re.match("b(eq|ne) ", cell.bare) for cell in self.cells)
         self.target = labelled.index(True) if True in labelled else len(self.cells)
         self.is_reached = [has_label and is_used for has_label in labelled]         # by a branch
@@ -150,10 +154,14 @@ class Hart:
             return f"{kind} instead{about}"
         return f"needed{about}" if cell.kind == kind else f"{kind} is enough{about}"
 
+    def line(self, at, words):
+        """The line by which this is said of an instruction."""
+        where = f"{f'line {self.lines[at]}':8}  {f'P{self.number}:{at}':5}"
+        return f"{where}  {self.cells[at].letters or 'none':9}  {words}"
+
 
 def written_placement(harts, slots, prices):
-    """The fences as they are written, for each slot, and whether these are all: they are not where one has no slot of
-    its own, or a kind without a price."""
+    """The written fence of each slot, and whether these are all: each must have a slot of its own, and a price."""
     placed, are_all = dict.fromkeys(slots), True
     for hart, at in ((hart, at) for hart in harts for at in hart.fences):
         access, kind = hart.access_of(at), hart.cells[at].kind
@@ -170,9 +178,7 @@ class Advised:
 
     def __init__(self, asked, left, prices):
         problem = reference.Problem(model.test_of(left.text().encode()), prices)
-        self.harts = [Hart(number, column, code) for number, (column, code)
-                      in enumerate(zip(asked.cells, model.test_of(asked.text().encode()).code))]
-        self.best = reference.solved(problem)
+        self.harts, self.best = asked.harts(), reference.solved(problem)
         self.own, self.are_all = written_placement(self.harts, problem.slots, prices)
         is_paid = all(kind is None or prices.at(slot, kind) for slot, kind in zip(problem.slots, self.own))
         self.own_cost = problem.cost(self.own)
@@ -182,32 +188,30 @@ class Advised:
         self.placed = None if self.best is None else dict(zip(problem.slots, self.best))
 
     def lines(self):
-        """Of each hart in turn each instruction of which something is said, with its cell, and the words."""
-        said = [(hart.number, at, cell, hart.advice(at, self.placed))
-                for hart in self.harts for at, cell in enumerate(hart.cells)]
-        return [line for line in said if line[3] is not None]
+        """Of each hart in turn each instruction of which something is said, and the words."""
+        said = [(hart, at, hart.advice(at, self.placed)) for hart in self.harts for at in range(len(hart.cells))]
+        return [line for line in said if line[2] is not None]
 
     def status(self, kind):
         is_right = self.best is not None and all(
-            words in ("needed", "needed for memory", "not for memory") for *_, words in self.lines())
+            words in ("needed", "needed for memory", "not for memory") for _, _, words in self.lines())
         return STATUS.get(kind, 0 if is_right else 1)
 
 
 def by_reference(columns, data):
     """The verdict; the lines and the status that are to be printed, or a fault; and what is advised for `--write`."""
-    prices, lines = model.prices_of(data), columns.lines()
+    prices = model.prices_of(data)
     try:
         kind, _ = verdict_of(columns.text().encode(), prices)
         advised = Advised(columns, columns.without_fences().eased(), prices)
         mended = Advised(columns.eased(), columns.without_fences(), prices)
-    except reference.Fault as fault:
+    except model.Fault as fault:
         return None, ([str(fault)], 2), None
     cost = f", {advised.own_cost}" if advised.are_all else ""
     if advised.best is None:
         return kind, ([f"{kind} as written{cost}; no fences rule it out"], advised.status(kind)), mended
     said = [f"{kind} as written{cost}; cheapest {advised.best_cost}"]
-    for hart, at, cell, words in advised.lines():
-        said.append(f"{f'line {lines[hart][at]}':8}  {f'P{hart}:{at}':5}  {cell.letters or 'none':9}  {words}")
+    said += [hart.line(at, words) for hart, at, words in advised.lines()]
     return kind, (said, advised.status(kind)), mended
 
 
@@ -215,11 +219,10 @@ class Places(reference.Problem):
     """The places of the fences of these columns, which order no memory, with what may stand in each."""
 
     def __init__(self, columns, prices):
-        self.harts = [Hart(number, column, code) for number, (column, code)
-                      in enumerate(zip(columns.cells, model.test_of(columns.text().encode()).code))]
+        self.harts = columns.harts()
         self.cells = {(hart.number, at): hart.cells[at] for hart in self.harts for at in hart.fences}
         self.costs = [self.costs_at(self.harts[hart], at, prices) for hart, at in self.cells]
-        emptied = columns.changed(lambda cell: cell if cell.kind is None else Cell(f"{cell.label} {EASED}".strip()))
+        emptied = columns.changed(lambda cell: cell if cell.kind is None else cell.saying(EASED))
         test = model.test_of(emptied.text().encode())
         test.slots = lambda: list(self.cells)
         super().__init__(test, prices)
@@ -246,9 +249,6 @@ class Places(reference.Problem):
     def price(self, at, kind):
         return 0 if kind is None else self.costs[at][kind]
 
-    def cost(self, placement):
-        return sum(self.price(at, kind) for at, kind in enumerate(placement))
-
     def written(self):
         return tuple(cell.kind for cell in self.cells.values())
 
@@ -267,15 +267,13 @@ class Places(reference.Problem):
 
 def in_place(columns, prices, anew):
     """What is to be printed in place, and what is advised in each place of which a line says to change something."""
-    places, lines = Places(columns, prices), columns.lines()
+    places = Places(columns, prices)
     best = dict(zip(places.cells, reference.solved(places)))
     costs = places.cost(places.written()), places.cost(best.values()), anew
     said = ["forbidden as written, %d; in place %d; anew %s" % costs]
     for hart in places.harts:
         for at in [at for at, cell in enumerate(hart.cells) if cell.letters]:
-            words = places.words(hart, at, best.get((hart.number, at)))
-            said.append(f"{f'line {lines[hart.number][at]}':8}  {f'P{hart.number}:{at}':5}  "
-                        f"{hart.cells[at].letters:9}  {words}")
+            said.append(hart.line(at, places.words(hart, at, best.get((hart.number, at)))))
     changed = {place: kind for place, kind in best.items() if kind != places.cells[place].kind}
     is_right = all(re.search(STAYS, line) for line in said[1:])
     return (said, 0 if is_right else 1), changed
@@ -283,15 +281,9 @@ def in_place(columns, prices, anew):
 
 def followed(columns, lines):
     """The columns where these places have what is advised there; what goes leaves its label."""
-    made = copy.copy(columns)
-    made.cells = []
-    for hart, column in enumerate(columns.cells):
-        instructions = iter(range(len(column)))
-        numbered = [(cell, next(instructions) if cell.bare else None) for cell in column]
-        cells = [Cell(f"{cell.label} {'' if lines[hart, at] is None else fence_of(lines[hart, at])}".strip())
-                 if (hart, at) in lines else cell for cell, at in numbered]
-        made.cells.append([cell for cell in cells if str(cell)])
-    return made
+    cells = [[cell for cell in column if cell.bare] for column in columns.cells]
+    fences = {cells[hart][at]: fence_of(kind) if kind else "" for (hart, at), kind in lines.items()}
+    return columns.changed(lambda cell: cell.saying(fences[cell]) if cell in fences else cell)
 
 
 def fence_of(kind):
@@ -348,8 +340,7 @@ def left_over(lines):
 
 
 def check_followed(run, name, files, columns, changed, said):
-    """Follows each line by itself, all of them, and sets of them by chance: the outcome stays ruled out, and the lines
-    that are left say the same."""
+    """Follows each line, all, and some sets: the outcome stays ruled out, and the lines that are left say the same."""
     places, chance = list(changed), random.Random(name)
     sets = [[place] for place in places] + [places] * (len(places) > 1)
     sets += [chance.sample(places, chance.randint(2, len(places) - 1)) for _ in range(3) if len(places) > 2]

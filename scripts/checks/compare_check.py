@@ -9,6 +9,7 @@ import itertools
 import json
 import os
 import random
+import re
 import sys
 
 from running import (EXAMPLES, PRICE_LISTS, PRICES, TOP, Said, compact, encoded, expanded, here, ran, read, rows,
@@ -74,8 +75,7 @@ def refuted(run, test, judge, cert, wanted):
 
 
 def certified(run):
-    """For each test and price list with a certificate: a name, the two files, the judge of both, and the
-    certificate; and the same in version 4."""
+    """For each test and prices with a certificate a name, both files, their judge and it; and the same in version 4."""
     found, path = [], run.path('answer.json')
     for test, name in itertools.product([*tests_of_examples(), here('ROUND.litmus')], PRICE_LISTS):
         prices, what = f'{EXAMPLES}/{name}', f'{os.path.relpath(test, EXAMPLES)} at {name}'
@@ -134,21 +134,14 @@ def judge(run, what, test, data, wanted, prices=PRICES, fault=None):
         run.expect(what, Said(f"{wanted}\n", "", 0 if wanted.startswith("yes\n") else 1), said)
 
 
-def links(text):
-    """A cycle, written as names and causes with blanks between them."""
-    words = text.split()
-    return [list(pair) for pair in zip(words[::2], words[1::2])]
-
-
 def changed(certificate, changes):
-    """The bytes of the certificate with these values in it, by their keys, and by a key and a number in its list; or
-    with another text in place of one in it, or of all."""
+    """The bytes of the certificate with these values, by key, or key and number in a list; or another text in it."""
     old, new = changes.pop("text", ("", ""))
     if "whole" in changes:
         return changes["whole"].encode()
     for key, value in changes.items():
-        if key == "cycles" and isinstance(value, list):
-            value = [links(cycle) if isinstance(cycle, str) else cycle for cycle in value]
+        if key == "cycles" and isinstance(value, list):             # as texts of names and causes, too
+            value = [re.findall(r"(\S+) (\S+)", it) if isinstance(it, str) else it for it in value]
         key, _, number = key.partition(" ")
         if number:
             certificate[key][int(number)] = value
@@ -162,8 +155,7 @@ def check_rows(run):
     certificates, mangled ones for each reason of docs/CERTIFICATE.md, section 5, and every beginning of one. Of each
     the two must print the same lines and end with the same status.
 
-    The valid ones are in examples/certificates/. What is expected of the mangled ones was worked out by hand. The valid
-    ones go through the command; the others are judged in this process, which takes less time."""
+    What is expected of mangled ones was worked out by hand. They are judged in this process, which takes less time."""
     for row in rows("certificates"):
         wanted, test, name, what, changes = row.split(" | ", 4)
         wanted, _, fault = wanted.partition("; ")

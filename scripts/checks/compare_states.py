@@ -6,7 +6,6 @@ must be an execution that ends in the state above it, and `order` must say of it
 import random
 
 import check_certificate as model
-import solve_reference as reference
 from litmus import Maker
 from running import compact, read, rvfence, written
 from verdicts import Listing
@@ -51,7 +50,7 @@ def compare(run, number):
     name = written(run.path(f"made{number}"), data)
     try:
         listing = Listing(data, is_all)
-    except reference.Fault as fault:
+    except model.Fault as fault:
         said = rvfence("states", "-q", name)
         run.expect(f"the fault of {name}", (f"{fault}\n", 2), (said.err, said.status))
         return 0

@@ -12,10 +12,9 @@ import random
 import re
 
 import check_certificate as model
-import solve_reference as reference
 from litmus import Maker
 from running import rvfence, written
-from verdicts import YES, runs_of, stores_of, verdict_of
+from verdicts import YES, stores_of, verdict_of
 
 ONES = model.prices_of(b'{"rw,rw":1}')
 AT_ONCE = 200
@@ -46,7 +45,7 @@ def made(number):
 def why_vacuous(test):
     """The words for the first atom that nothing makes true."""
     names = {address: name for name, address in test.addresses.items()}
-    runs = runs_of(test)
+    runs = model.all_runs(test)
     stored = frozenset().union(*[stores_of(run) for run in itertools.chain.from_iterable(runs)])
 
     def blamed(condition, wanted):
@@ -72,7 +71,7 @@ def by_reference(data):
     """What is to be said of the test, and the words for it, or which form they have."""
     try:
         kind, problem = verdict_of(data, ONES)
-    except reference.Fault as fault:
+    except model.Fault as fault:
         return "fault", str(fault).removeprefix("fault ")
     # where some candidate shows the outcome, a contradiction is needed to rule it out
     forbidden = COUNTED if problem.candidates else FORBIDDEN

@@ -21,7 +21,7 @@ from running import EXAMPLES, LONGEST, PRICES, Said, compiled, program, ran, rea
 
 MISSING, FOLDER, UNREAD = "there is no such file", "it is a folder", "it can't be opened or read"
 UNWRITTEN = Said("", "fault F21 WriteFault\n", 2)
-OLD = b"old"
+OLD, NONE = {"kept.json": b"old"}, {}       # what is in a folder where a certificate is to be written
 NOBODY = 65534
 STREAMS = [[0], [1], [2], [0, 1], [0, 2], [1, 2], [0, 1, 2]]
 # store buffering in the printed form, an execution of it, and its answer
@@ -47,6 +47,7 @@ class Checks:
         self.hinder = compiled("checks/hinder.c", folder, "-shared", "-fPIC")
         self.certificate = f"{folder}/certificate.json"
         self.certify(self.certificate)
+        self.whole = {"kept.json": read(self.certificate)}
         # each command with its words, and what it says
         self.commands = {
             "place": (["place", self.test], Said(SB, "", 0)),
@@ -67,16 +68,20 @@ class Checks:
 
 @contextlib.contextmanager
 def folder_with(checks, kept):
-    """A folder in which this is kept where a certificate is to be written, if anything is; and that path."""
+    """A folder in which these files are, and the path for a certificate."""
     with tempfile.TemporaryDirectory(dir=checks.folder) as folder:
-        if kept is not None:
-            written(f"{folder}/kept.json", kept)
+        for name in kept:
+            written(f"{folder}/{name}", kept[name])
         yield folder, f"{folder}/kept.json"
 
 
+def contents(folder):
+    """The files of a folder with what is in them."""
+    return {name: read(f"{folder}/{name}") for name in os.listdir(folder)}
+
+
 def before(*closed, size=None, is_ignored=True):
-    """What a run does first, so that these streams are closed and no file grows beyond this size: a write fails then,
-    or a signal comes, which would end the run."""
+    """What a run does first: it closes these streams, and no file grows past this size, else a signal comes, if any."""
     def prepare():
         if size is not None:
             if is_ignored:
@@ -164,29 +169,20 @@ def check_errors(checks):
 
 
 def check_certificates(checks):
-    """A certificate on a disk that takes each number of bytes and no more, by a write that fails and by a signal: what
-    was there stays, if anything. With room for all it is there. The same where streams are closed, so that it is opened
-    under the number of one of them: neither the answer nor a fault's line comes into it, and the status tells."""
-    whole = read(checks.certificate)
-    for size, kept, is_ignored in itertools.product(range(len(whole) + 1), (OLD, None), (True, False)):
-        wanted = (SB_ANSWER, whole) if size == len(whole) else (UNWRITTEN, kept)
-        name = f"room for {size} bytes of a certificate, {kept} there{'' if is_ignored else ', or a signal comes'}"
-        checks.expect(name, wanted, certified(checks, kept, size, is_ignored))
-    for closed, size, kept in itertools.product(STREAMS, (0, 1, len(whole) - 1, len(whole)), (OLD, None)):
-        said, left = certified(checks, kept, size, True, closed)
-        has_room = size == len(whole)
-        wanted = (0 if has_room and 1 not in closed else 2, whole if has_room else kept)
-        name = f"streams {closed} closed, room for {size} bytes of a certificate, {kept} there"
-        checks.expect(name, wanted, (said.status, left))
-
-
-def certified(checks, kept, size, is_ignored, closed=()):
-    """The end of a run that writes a certificate where this is kept and there is so much room, and what is there
-    then. What a write that failed leaves beside it is told as its name. These streams are closed."""
-    with folder_with(checks, kept) as (folder, path):
-        found = checks.certify(path, preexec_fn=before(*closed, size=size, is_ignored=is_ignored))
-        beside = [name for name in os.listdir(folder) if name != "kept.json"]
-        return found, beside or (read(path) if os.path.exists(path) else None)
+    """A certificate on a disk that takes so many bytes, by a write that fails and by a signal: it is there whole, or
+    what was there stays. Where streams are closed, neither answer nor fault comes into it, and the status tells."""
+    room = os.path.getsize(checks.certificate)
+    cases = [([], size, is_ignored) for size in range(room + 1) for is_ignored in (True, False)]
+    cases += [(closed, size, True) for closed in STREAMS for size in (0, 1, room - 1, room)]
+    for (closed, size, is_ignored), kept in itertools.product(cases, (OLD, NONE)):
+        with folder_with(checks, kept) as (folder, path):
+            said = checks.certify(path, preexec_fn=before(*closed, size=size, is_ignored=is_ignored))
+            answer, left = (SB_ANSWER, checks.whole) if size == room else (UNWRITTEN, kept)
+            if closed:
+                said, answer = said.status, 2 if 1 in closed else answer.status
+            name = f"streams {closed} closed, room for {size} bytes of a certificate, {kept} there"
+            name += "" if is_ignored else ", or a signal comes"
+            checks.expect(name, (answer, left), (said, contents(folder)))
 
 
 # each call of a run at the file that it writes, and at one beside it
@@ -211,53 +207,42 @@ class Held:
         return Said(out, error, self.child.returncode)
 
 
-def contents(folder):
-    """The files of a folder with what is in them."""
-    return {name: read(f"{folder}/{name}") for name in os.listdir(folder)}
-
-
 def check_two_runs(checks):
-    """Two runs at once that write their certificates to one path, each of which is held at each of its calls, and
-    goes on before the other one or behind it. Both say what they say alone, the certificate of one of them stands
-    there whole, and nothing beside it."""
+    """Two runs at once that write their certificates to one path, each held at each of its calls, and let go before
+    the other or behind it. Both say what they say alone; one certificate stands there whole, and nothing beside it."""
     runs = []
     for test in (checks.test, f"{EXAMPLES}/MP.litmus"):
         said = checks.run(["solve", test, checks.prices, "--cert", f"{checks.folder}/alone.json"])
         runs.append((test, said, read(f"{checks.folder}/alone.json")))
-    wanted, wholes = [said for _, said, _ in runs], [whole for _, _, whole in runs]
+    wanted, wholes = [said for _, said, _ in runs], [{"kept.json": whole} for _, _, whole in runs]
     checks.check("the certificates differ", wholes[0] != wholes[1])
-    for calls, kept, order in itertools.product(itertools.product(HELD, HELD), (OLD, None), ((0, 1), (1, 0))):
+    for calls, kept, order in itertools.product(itertools.product(HELD, HELD), (OLD, NONE), ((0, 1), (1, 0))):
         with folder_with(checks, kept) as (folder, _):
             both = [Held(checks, folder, test, call) for (test, _, _), call in zip(runs, calls)]
-            said = dict((at, both[at].let_go()) for at in order)
+            said = {at: both[at].let_go() for at in order}
             name = f"two runs held at {' and '.join(calls)}, {kept} there, run {order[0]} goes on first"
             checks.expect(name, wanted, [said[0], said[1]])
             left = contents(folder)
-            checks.check(f"{name}: what is left", left in [{"kept.json": whole} for whole in wholes], left)
+            checks.check(f"{name}: what is left", left in wholes, left)
 
 
 def check_ended_runs(checks):
-    """A run that a signal ends at a call leaves what was there, or the whole, and at most a file that no later run
-    minds."""
-    whole = read(checks.certificate)
-    for call, kept, number in itertools.product(HELD, (OLD, None), (signal.SIGTERM, signal.SIGKILL)):
+    """A run that a signal ends at a call leaves what was there, or the whole, and a file that no later run minds."""
+    for call, kept, number in itertools.product(HELD, (OLD, NONE), (signal.SIGTERM, signal.SIGKILL)):
         with folder_with(checks, kept) as (folder, path):
             held = Held(checks, folder, checks.test, call)
             held.child.send_signal(number)
             held.let_go()
             left = contents(folder)
             name = f"signal {number} before {call}, {kept} there"
-            is_right = left.pop("kept.json", None) in (kept, whole) and set(left) <= {"kept.json.part"}
-            checks.check(name, is_right, left)
+            certificate = {it: left[it] for it in left if it != "kept.json.part"}
+            checks.check(name, certificate in (kept, checks.whole), left)
             checks.expect(f"{name}: a later run", SB_ANSWER, checks.certify(path))
-            checks.expect(f"{name}: a later run's certificate", {**left, "kept.json": whole}, contents(folder))
+            checks.expect(f"{name}: a later run's certificate", left | checks.whole, contents(folder))
 
 
 def check_modes(checks):
-    """A certificate has the mode of the file that it replaces, from the first moment on, else that of a new file; where
-    a mode can't be given, too."""
-    whole = read(checks.certificate)
-
+    """A certificate has the mode of the file that it replaces, from the first moment on, else that of a new file."""
     def mode_of(path):
         return oct(stat.S_IMODE(os.stat(path).st_mode))
 
@@ -271,8 +256,7 @@ def check_modes(checks):
                 checks.check(f"mode {mode:o} at mask {mask:o}, while it is written", not during & ~mode)
                 said = held.let_go()
                 found = (said, contents(folder), mode_of(path))
-                wanted = (SB_ANSWER, {"kept.json": whole}, oct(mode))
-                checks.expect(f"mode {mode:o} at mask {mask:o}", wanted, found)
+                checks.expect(f"mode {mode:o} at mask {mask:o}", (SB_ANSWER, checks.whole, oct(mode)), found)
         path = f"{checks.folder}/new.json"
         checks.certify(path)
         checks.expect(f"a new file at mask {mask:o}", oct(0o666 & ~mask), mode_of(path))
@@ -282,8 +266,7 @@ def check_modes(checks):
         os.chmod(path, 0o640)
         settings = hindering(checks, "fchmod", errno.EPERM, name=folder)
         found = (checks.certify(path, env=settings), contents(folder), mode_of(path))
-        wanted = (SB_ANSWER, {"kept.json": whole}, oct(0o640))
-        checks.expect("a mode that can't be given", wanted, found)
+        checks.expect("a mode that can't be given", (SB_ANSWER, checks.whole, oct(0o640)), found)
 
 
 def hindering(checks, call, error, count=1000, name=""):
@@ -293,9 +276,7 @@ def hindering(checks, call, error, count=1000, name=""):
 
 
 def check_interrupted(checks):
-    """A call that a signal interrupts is made again: each read and each write of the first ones, once or some times in
-    a row. Other errors at the same calls are faults."""
-    whole = read(checks.certificate)
+    """A call that a signal interrupts is made again, once or some times in a row. Other errors at it are faults."""
     for command, (words, answer) in checks.commands.items():
         for call, count in itertools.product(("open", "read", "write"), (1, 3, 1000)):
             found = checks.run(words, env=hindering(checks, call, errno.EINTR, count))
@@ -305,10 +286,10 @@ def check_interrupted(checks):
         found = checks.run(words, env=hindering(checks, "read", errno.EIO, 1, os.path.basename(words[1])))
         checks.expect(f"{command}: a read that fails", unread(words[1], UNREAD), found)
     for call in ("open", "write", "fchmod"):
-        path = written(f"{checks.folder}/interrupted.json", OLD)
+        path = written(f"{checks.folder}/interrupted.json", "old")
         settings = hindering(checks, call, errno.EINTR, 3, "interrupted.json")
         found = (checks.certify(path, env=settings), read(path))
-        checks.expect(f"a certificate whose {call} is interrupted", (SB_ANSWER, whole), found)
+        checks.expect(f"a certificate whose {call} is interrupted", (SB_ANSWER, checks.whole["kept.json"]), found)
 
 
 def check(run):

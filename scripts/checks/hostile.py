@@ -8,23 +8,21 @@ scripts/check_certificate.py says.
 With `--huge` it feeds `check` certificates of 100 MB, one after the other, and nothing else: these may take 60
 seconds and 8 GB, and what each takes is printed."""
 import collections
-import contextlib
 import itertools
 import os
 import re
 import resource
 import signal
+import tempfile
 from concurrent.futures import ProcessPoolExecutor
 
 from checks import hostile_files as files
-from running import EXAMPLES, PRICES, TOP, program, read, rows, written
+from running import EXAMPLES, PRICES, TOP, program, ran, rows
 from verdicts import READ
 
 # Seconds of processor time, and bytes: for files up to a mebibyte, and for huge ones.
 LIMITS, HUGE_LIMITS = (2, 400_000_000), (60, 8_000_000_000)
 STACK = 8 * 1024 * 1024             # that a process has by default, in bytes
-LONGEST_WAIT = 1800                 # seconds by the clock, after which a run that waits for something is ended
-MOST_SAID = 2 << 20                 # what is said of a test is shorter: a location's name, at most, may fill a file
 
 
 def patterns(group, parts=()):
@@ -37,150 +35,119 @@ def patterns(group, parts=()):
 
 PARTS = patterns("parts of what is said")
 ANSWERS = {name: re.compile(text) for name, text in patterns("answers", PARTS).items()}
-SAID = {key: re.compile(text.encode()) for key, text in patterns("said", PARTS).items()}
+SAID = {key: re.compile(text, re.A) for key, text in patterns("said", PARTS).items()}
 # How the program gets the files of a group: what stands before the names, its words, and the answer in place of READ.
 Use = collections.namedtuple("Use", "group name words read")
 USES = [Use(group, name, words.split(), read) for groups, name, words, read
         in (row.split(" | ") for row in rows("hostile", "uses")) for group in groups.split(", ")]
-# What is wrong with the end of a run, its answer, its seconds of processor time, and its peak of memory.
-Found = collections.namedtuple("Found", "end answer seconds memory")
-# Of runs their number, those that failed by name with what is wrong, and the most of both.
-Tally = collections.namedtuple("Tally", "count failed seconds memory")
 
 
-class Runner:
-    """Runs the program, in files of its own, and ends the runs that take too long."""
-
-    def __init__(self, folder, most_seconds):
-        resource.setrlimit(resource.RLIMIT_STACK, (STACK, resource.getrlimit(resource.RLIMIT_STACK)[1]))
-        self.most_seconds = most_seconds
-        self.child = None
-        self.paths = [f"{folder}/{os.getpid()}.{name}" for name in ("in", "out", "err")]
-        signal.signal(signal.SIGALRM, lambda *_: os.kill(self.child, signal.SIGKILL))
-
-    def run(self, text, words):
-        """A run with this input and words. Its answer is its fault's line, what it says, or of `place` READ."""
-        flags = [os.O_RDONLY, *[os.O_WRONLY | os.O_CREAT | os.O_TRUNC] * 2]
-        actions = [(os.POSIX_SPAWN_OPEN, at, self.paths[at], flags[at], 0o600) for at in range(3)]
-        written(self.paths[0], text)
-        self.child = os.posix_spawn(program(), [program(), *words], os.environ, file_actions=actions)
-        signal.alarm(LONGEST_WAIT)
-        with contextlib.suppress(ProcessLookupError):
-            resource.prlimit(self.child, resource.RLIMIT_CPU, (self.most_seconds + 1, self.most_seconds + 1))
-        _, raw, used = os.wait4(self.child, 0)
-        signal.alarm(0)
-        with open(self.paths[1], "rb") as file:
-            said = file.read(MOST_SAID)
-        error = read(self.paths[2])
-        answer = answer_of(words[0], said, error)
-        return Found(end_of(words, raw, said, error), answer, used.ru_utime + used.ru_stime, used.ru_maxrss * 1024)
+def begin():
+    """Readies this process for runs. An interrupt ends it at once."""
+    signal.signal(signal.SIGINT, signal.SIG_DFL)
+    os.chdir(TOP)
+    resource.setrlimit(resource.RLIMIT_STACK, (STACK, resource.getrlimit(resource.RLIMIT_STACK)[1]))
+    program()
 
 
-def answer_of(command, said, error):
-    """The answer of a run that printed this on both outputs: of `test` what is said of the file."""
-    if command == "place" and not error:
+def run(name, text, wanted, words, limits):
+    """Of a run with this input and words its name, what is wrong with it, its seconds of processor time, and its bytes
+    of memory, where these are the most of this process' runs so far."""
+    before = resource.getrusage(resource.RUSAGE_CHILDREN)
+    with tempfile.TemporaryFile() as file:
+        file.write(text)
+        file.seek(0)
+        said = ran([program(), *words], stdin=file, seconds=limits[0] + 1)
+    used = resource.getrusage(resource.RUSAGE_CHILDREN)
+    seconds = used.ru_utime + used.ru_stime - before.ru_utime - before.ru_stime
+    memory = used.ru_maxrss * 1024 if used.ru_maxrss > before.ru_maxrss else 0
+    end, answer = end_of(words, said), answer_of(words[0], said)
+    is_wanted = wanted == answer if isinstance(wanted, str) else wanted.fullmatch(answer)
+    wrong = [end, "" if end or is_wanted else f"{answer}, and {wanted} is wanted",
+             f"{seconds:.1f} seconds" if seconds > limits[0] else "",
+             f"{memory // 1_000_000} MB" if memory > limits[1] else ""]
+    return name, "; ".join(filter(None, wrong)), seconds, memory
+
+
+def answer_of(command, said):
+    """The answer of a run: its fault's line, what it says, or of `place` READ; of `test` what is said of the file."""
+    if command == "place" and not said.err:
         return READ
-    answer = (said or error.partition(b"\n")[0]).decode("utf-8", "replace").rstrip("\n")
+    answer = (said.out or said.err.partition("\n")[0]).rstrip("\n")
     return answer.split("\n")[0].removeprefix("stdin  ") if command == "test" else answer
 
 
 def is_message(fault, text):
     """Is the text a message of this fault (docs/FORMAT.md, section 14)? Where a line has a number, so has the place."""
-    if fault == b"fault F20 ReadFault":
+    if fault == "fault F20 ReadFault":
         return SAID["unread"].fullmatch(text)
-    line = re.search(rb" line (\d+)$", fault)
-    place = rb":%s:\d+: " % (line[1] if line else rb"\d+")
-    source = rb"\n  [ -~]{0,100}\n {2,62}\^ [ -~]+\n"
+    line = re.search(r" line (\d+)$", fault)
+    place = r":%s:\d+: " % (line[1] if line else r"\d+")
+    source = r"\n  [ -~]{0,100}\n {2,62}\^ [ -~]+\n"
     fault = re.escape(fault)
-    return re.fullmatch(rb"[ -~]*(" + place + fault + source + rb"|: " + fault + rb"\n  [ -~]+\n)", text)
+    return re.fullmatch(f"[ -~]*({place}{fault}{source}|: {fault}\n  [ -~]+\n)", text)
 
 
-def is_explained(words, said, error):
+def is_explained(words, said):
     """Is a run with these words that a fault ended, or of `test` the fault of its file, explained where it should be?
     Elsewhere there is no message, as of F13 to F15 of a file of `test`."""
     if words[0] == "test":
-        found = re.match(rb"stdin  (fault F(?:[1-9]|20) [^\n]+)\n", said)
-        return is_message(found[1], error) if found else not error
-    line, _, message = error.partition(b"\n")
+        found = re.match(r"stdin  (fault F(?:[1-9]|20) [^\n]+)\n", said.out)
+        return is_message(found[1], said.err) if found else not said.err
+    line, _, message = said.err.partition("\n")
     if "--log" in words and SAID["log"].fullmatch(line):
         return not message
-    if not re.fullmatch(rb"fault F\d+ [^\n]+", line):
+    if not re.fullmatch(r"fault F\d+ [^\n]+", line):
         return False
-    if words[0] == "states" and line.startswith(b"fault F3 ") and not message:
+    if words[0] == "states" and line.startswith("fault F3 ") and not message:
         return True     # of an item of `locations`
-    is_told = words[0] in ("audit", "states") or "-v" in words or line == b"fault F20 ReadFault" and "-q" not in words
+    is_told = words[0] in ("audit", "states") or "-v" in words or line == "fault F20 ReadFault" and "-q" not in words
     return is_message(line, message) if is_told else not message
 
 
-def end_of(words, raw, said, error):
-    """What is wrong with this end of a run with these words: its raw status, and what it printed on both outputs."""
-    if os.WIFSIGNALED(raw):
-        return f"ended by signal {os.WTERMSIG(raw)}"
-    status = os.WEXITSTATUS(raw)
-    wanted = SAID.get(f"{words[0]} {status}")
-    if status == 2 and not (said and wanted):
-        is_right = not said and is_explained(words, said, error)
+def end_of(words, said):
+    """What is wrong with the end of a run with these words."""
+    wanted = SAID.get(f"{words[0]} {said.status}")
+    if said.status == 2 and not (said.out and wanted):
+        is_right = not said.out and is_explained(words, said)
     else:
-        is_right = wanted and wanted.fullmatch(said)
-        is_right = is_right and (is_explained(words, said, error) if words[0] == "test" else not error)
-    return "" if is_right else f"status {status} with {said[:80]!r} and {error[:200]!r}"
-
-
-def tally_of(runs, limits):
-    """What came of runs, each a name, the answer that is wanted, and what was found."""
-    count, failed, seconds, memory = 0, [], 0.0, 0
-    for count, (name, wanted, found) in enumerate(runs, 1):
-        is_wanted = wanted == found.answer if isinstance(wanted, str) else wanted.fullmatch(found.answer)
-        wrong = [found.end, "" if found.end or is_wanted else f"{found.answer}, and {wanted} is wanted",
-                 f"{found.seconds:.1f} seconds" if found.seconds > limits[0] else "",
-                 f"{found.memory // 1_000_000} MB" if found.memory > limits[1] else ""]
-        failed += [(name, "; ".join(filter(None, wrong)))] if any(wrong) else []
-        seconds, memory = max(seconds, found.seconds), max(memory, found.memory)
-    return Tally(count, failed, seconds, memory)
-
-
-def begin(folder):
-    """Gives this process its runner. An interrupt ends it at once."""
-    global runner
-    signal.signal(signal.SIGINT, signal.SIG_DFL)
-    os.chdir(TOP)
-    runner = Runner(folder, LIMITS[0])
+        is_right = wanted and wanted.fullmatch(said.out)
+        is_right = is_right and (is_explained(words, said) if words[0] == "test" else not said.err)
+    return "" if is_right else f"status {said.status} with {said.out[:80]!r} and {said.err[:200]!r}"
 
 
 def run_group(use):
-    """What came of a group, all of whose files are fed to the program. Those of `fences` are words."""
-    def runs():
-        for name, text, wanted in files.group(use.group):
-            text, words = (text, use.words) if isinstance(text, bytes) else (b"", [*use.words, *text])
-            is_item = use.read == "LISTED" and name.endswith(" in locations")
-            answer = ANSWERS["LISTED_ITEMS" if is_item else use.read]
-            yield f"{use.name} {name}".strip(), answer if wanted == READ else wanted, runner.run(text, words)
-
-    return tally_of(runs(), LIMITS)
-
-
-def tallies_of_groups(folder):
-    """What came of each group."""
-    with ProcessPoolExecutor(initializer=begin, initargs=[folder]) as pool:
-        for use, tally in zip(USES, pool.map(run_group, USES)):
-            print(f"{use.name} {use.group}: {tally.count} runs", flush=True)
-            yield tally
+    """The runs of a group, all of whose files are fed to the program. Those of `fences` are words."""
+    runs = []
+    for name, text, wanted in files.group(use.group):
+        text, words = (text, use.words) if isinstance(text, bytes) else (b"", [*use.words, *text])
+        is_item = use.read == "LISTED" and name.endswith(" in locations")
+        answer = ANSWERS["LISTED_ITEMS" if is_item else use.read] if wanted == READ else wanted
+        runs.append(run(f"{use.name} {name}".strip(), text, answer, words, LIMITS))
+    return runs
 
 
-def tallies_of_huge(folder):
-    """Feeds `check` the huge certificates, and prints what each takes."""
-    runner = Runner(folder, HUGE_LIMITS[0])
+def runs_of_groups():
+    """The runs of all groups."""
+    with ProcessPoolExecutor(initializer=begin) as pool:
+        for use, runs in zip(USES, pool.map(run_group, USES)):
+            print(f"{use.name} {use.group}: {len(runs)} runs", flush=True)
+            yield from runs
+
+
+def runs_of_huge():
+    """The runs of `check` with huge certificates, each from a process of its own; prints what each takes."""
+    words = ["check", f"{EXAMPLES}/SB.litmus", PRICES, "/dev/stdin"]
     for name, text, wanted in files.huge_certificates():
-        found = runner.run(text, ["check", f"{EXAMPLES}/SB.litmus", PRICES, "/dev/stdin"])
-        print(f"100 MB of {name}: {found.seconds:.2f} seconds, {found.memory / 1e6:.0f} MB", flush=True)
-        yield tally_of([(f"100 MB of {name}", wanted, found)], HUGE_LIMITS)
+        with ProcessPoolExecutor(1, initializer=begin) as pool:
+            found = pool.submit(run, f"100 MB of {name}", text, wanted, words, HUGE_LIMITS).result()
+        print(f"{found[0]}: {found[2]:.2f} seconds, {found[3] / 1e6:.0f} MB", flush=True)
+        yield found
 
 
-def check(run):
-    tallies = list(tallies_of_huge(run.folder) if run.options.huge else tallies_of_groups(run.folder))
-    for tally in tallies:
-        run.passed += tally.count - len(tally.failed)
-        for name, wrong in tally.failed:
-            run.check(name, False, wrong)
-    seconds, memory = max(tally.seconds for tally in tallies), max(tally.memory for tally in tallies)
-    print(f"at most {seconds:.2f} seconds of processor time and {memory / 1e6:.0f} MB of memory")
+def check(counts):
+    most_seconds = most_memory = 0
+    for name, wrong, seconds, memory in runs_of_huge() if counts.options.huge else runs_of_groups():
+        counts.check(name, not wrong, wrong)
+        most_seconds, most_memory = max(most_seconds, seconds), max(most_memory, memory)
+    print(f"at most {most_seconds:.2f} seconds of processor time and {most_memory / 1e6:.0f} MB of memory")

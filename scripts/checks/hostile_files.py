@@ -21,10 +21,10 @@ PRICES = "fault F10 BadPrices"
 NO_FENCE = "fault F12 BadFence"
 WITNESS = "fault F17 BadWitness"
 CERTIFICATE = "fault F18 BadCertificate"
-TOO_LONG = "fault F20 ReadFault"
 # What is said of a witness of the right form, and what `states` says of a log: what is seen and allowed, or its error.
 ANSWERED = re.compile("yes|no: .*")
 LOGGED = re.compile(r"(?s)SB: .*|error: log line \d+: expected .*")
+WHOLES = {name: read(f"{EXAMPLES}/{name}") for name in sorted(os.listdir(EXAMPLES)) if name.endswith(".litmus")}
 
 
 def syntax(line):
@@ -41,12 +41,6 @@ def litmus(init="0:x6=x;", cell="lw x5,0(x6)", condition="0:x5=0"):
     return f"RISCV T\n{{ {init} }}\nP0 ;\n{cell} ;\nexists {condition}\n".encode("ascii")
 
 
-def examples():
-    for name in sorted(os.listdir(EXAMPLES)):
-        if name.endswith(".litmus"):
-            yield name, read(f"{EXAMPLES}/{name}")
-
-
 def witness_of(choices, order):
     return f'{{"choices":[{choices}],"order":[{order}]}}'.encode()
 
@@ -54,6 +48,7 @@ def witness_of(choices, order):
 # What a text of the table stands for.
 PARTS = {"init": lambda text: litmus(init=text), "init, no cell": lambda text: litmus(init=text, cell=""),
          "cell": lambda text: litmus(cell=text), "condition": lambda text: litmus(condition=text), "whole": str.encode,
+         "latin": lambda text: text.encode("latin-1"),
          "choices": lambda text: witness_of(text, '"P0:2","P1:2","P0:1","P1:1"'),
          "order": lambda text: witness_of("[0],[0]", text)}
 
@@ -86,15 +81,19 @@ def flooded(group, signs, wanted, size=MEBIBYTE - 100):
         yield f"{sign!r} {place}", text.encode().replace(b"@", sign * (size // len(sign))), wanted
 
 
-def beginnings_of(what, whole, answer):
-    for count in range(len(whole)):
-        yield f"the first {count} bytes of {what}", whole[:count], answer(whole[:count])
+def answered(answer, *files):
+    """Each of these files, by its name, with what the function answers."""
+    for name, text in itertools.chain(*files):
+        yield name, text, answer(text)
 
 
-def bytes_replaced(what, whole, bytes_for, answer):
+def beginnings_of(what, whole):
+    return ((f"the first {count} bytes of {what}", whole[:count]) for count in range(len(whole)))
+
+
+def bytes_replaced(what, whole, bytes_for):
     for at, byte in itertools.product(range(len(whole)), bytes_for):
-        text = whole[:at] + bytes([byte]) + whole[at + 1:]
-        yield f"{what} with byte {at} {byte:#04x}", text, answer(text)
+        yield f"{what} with byte {at} {byte:#04x}", whole[:at] + bytes([byte]) + whole[at + 1:]
 
 
 def without_documentation(whole):
@@ -104,15 +103,13 @@ def without_documentation(whole):
 
 
 def beginnings():
-    """Every beginning of every example. Up to its name the first line is no title, and the name of each example
-    begins at its seventh byte. From there on the text ends too soon, at its last line: each line begins what the
-    whole test goes on with, and a sign that is cut in two (`/` of `/\\`) is cut at the end. Each condition ends with
-    `)`; what comes after that is the line end alone."""
-    for name, whole in examples():
+    """Every beginning of every example. The first line is no title up to its name, which begins at the seventh byte.
+    From there on the text ends too soon, at its last line: each line begins what the whole test goes on with, and a
+    sign (`/\\`) is cut in two at the end alone. Behind the `)` of the condition comes the line end."""
+    for name, whole in WHOLES.items():
         def answer(text, size=len(whole)):
             return TITLE if len(text) <= 6 else syntax(last_line(text)) if len(text) < size - 1 else READ
-        yield from beginnings_of(name, whole, answer)
-        yield f"all bytes of {name}", whole, READ
+        yield from answered(answer, beginnings_of(name, whole), [(f"all bytes of {name}", whole)])
 
 
 TELLING = b"()[]{};|,:=~-/\\*&._#\"'+<>@!% \t\n\r\0" + b"09xaPw\x7f\x80\xff"
@@ -120,8 +117,8 @@ TELLING = b"()[]{};|,:=~-/\\*&._#\"'+<>@!% \t\n\r\0" + b"09xaPw\x7f\x80\xff"
 
 def bytes_changed():
     """MP with each byte replaced by each telling one. A byte of 128 or more beside ASCII alone is no UTF-8."""
-    whole = without_documentation(dict(examples())["MP.litmus"])
-    yield from bytes_replaced("MP", whole, TELLING, lambda text: fault_of(text) if text.isascii() else UTF8)
+    whole = without_documentation(WHOLES["MP.litmus"])
+    return answered(lambda text: fault_of(text) if text.isascii() else UTF8, bytes_replaced("MP", whole, TELLING))
 
 
 WORDS, VALUES = words("words"), words("values")
@@ -144,7 +141,7 @@ def one_changed(chance, parts):
 def tokens_changed():
     """The examples with up to three of their tokens changed, the same ones each time."""
     chance = random.Random(1)
-    wholes = [(name, without_documentation(whole).decode("ascii")) for name, whole in examples()]
+    wholes = [(name, without_documentation(whole).decode("ascii")) for name, whole in WHOLES.items()]
     for number in range(TOKENS_CHANGED):
         name, whole = wholes[number % len(wholes)]
         parts = re.findall(r"[A-Za-z0-9_.+]+|/\\|\\/|.|\n", whole)
@@ -229,13 +226,6 @@ def within(answer, line, text):
     return {"READ": READ, "UTF8": UTF8, "instr": f"fault F4 UnknownInstr line {line}"}[answer]
 
 
-def sizes():
-    """A mebibyte is read, and not a byte more: a file that is too long is not looked at."""
-    yield from of_table("sizes of tests")
-    for size, wanted in ((MEBIBYTE, UTF8), (MEBIBYTE + 1, TOO_LONG), (2 * MEBIBYTE, TOO_LONG)):
-        yield f"{size} bytes of 0xff", b"\xff" * size, wanted
-
-
 def noise():
     """A mebibyte of bytes by chance, bare and behind a good beginning. Somewhere among them UTF-8 is broken."""
     chance = random.Random(3)
@@ -253,7 +243,7 @@ def samples():
     yield from itertools.islice(tokens_changed(), 0, None, 7)
     yield from floods()
     yield from noise()
-    yield from sizes()
+    yield from of_table("sizes")
 
 
 # What begins or ends a value of JSON, or is no part of one.
@@ -271,36 +261,32 @@ def prices():
 def prices_changed():
     """A price list with each byte replaced by each telling one, and with each of its values replaced by others."""
     value = {"w,w": 2, "tso": 1000000, "rw,rw": 10, "weights": {"P0:3": 3, "P255:255": 1000}}
-    whole = compact(value).encode()
-    yield from bytes_replaced("prices", whole, TELLING, lambda text: fault_of(text, prices_of))
-    for name, text in values_changed(value):
-        yield f"prices with {name}", text, fault_of(text, prices_of)
+    lists = bytes_replaced("prices", compact(value).encode(), TELLING), values_changed("prices", value)
+    return answered(lambda text: fault_of(text, prices_of), *lists)
 
 
-def values_changed(whole):
+def values_changed(what, whole):
     """A value of JSON as text with each of its parts replaced by each of VALUES, and each entry of a list or an
     object left out or put in twice, an object's under another key."""
-    mark = "@"
-    for place, changed in parts_changed(whole, mark):
+    for place, changed in parts_changed(whole):
         text = compact(changed)
-        if f'"{mark}"' not in text:
-            yield place, text.encode()
-            continue
-        for value in VALUES:
-            yield f"{value[:30]} for {place}", text.replace(f'"{mark}"', value).encode()
+        for value in VALUES if '"@"' in text else ():
+            yield f"{what} with {value[:30]} for {place}", text.replace('"@"', value).encode()
+        if '"@"' not in text:
+            yield f"{what} with {place}", text.encode()
 
 
-def parts_changed(value, mark, place="all"):
-    """By a name each, the value with the mark in place of itself or one of its parts, or with an entry less or more."""
-    yield place, mark
+def parts_changed(value, place="all"):
+    """By a name each, the value with "@" in place of itself or one of its parts, or with an entry less or more."""
+    yield place, "@"
     if isinstance(value, dict):
         for key in value:
-            for name, part in parts_changed(value[key], mark, f"{place} {key}"):
+            for name, part in parts_changed(value[key], f"{place} {key}"):
                 yield name, {**value, key: part}
             yield f"no {place} {key}", {other: part for other, part in value.items() if other != key}
             yield f"another {place} {key}", {**value, f"{key}x": value[key]}
     for at in range(len(value)) if isinstance(value, list) else ():
-        for name, part in parts_changed(value[at], mark, f"{place} {at}"):
+        for name, part in parts_changed(value[at], f"{place} {at}"):
             yield name, [*value[:at], part, *value[at + 1:]]
         yield f"no {place} {at}", value[:at] + value[at + 1:]
         yield f"{place} {at} twice", value[:at + 1] + value[at:]
@@ -317,24 +303,26 @@ def fences():
 
 def logs():
     """Logs for SB: floods, blocks that break off, many blocks, states and items, and what isn't UTF-8."""
-    yield from of_table("logs")
-    for name, text in (("a byte that isn't UTF-8", b"\xff"), ("noise", random.Random(4).randbytes(MEBIBYTE))):
-        yield f"{name} for a log", text, "error: the log isn't UTF-8"
+    yield from of_table("kinds of logs")
+    yield "noise for a log", random.Random(4).randbytes(MEBIBYTE), "error: the log isn't UTF-8"
+
+
+def changed(what, whole, bytes_for, answer):
+    """Each beginning of a text of JSON, and the text with each byte replaced by each of these, and each value, too."""
+    yield from answered(answer, beginnings_of(what, whole), bytes_replaced(what, whole, bytes_for),
+                        values_changed(what, json.loads(whole)))
 
 
 def witnesses():
-    """Every beginning of a witness for SB, the witness with each byte replaced by each telling one, and large ones.
-    Lists that are too long are a matter of the runs, names of the order, whatever their numbers; choices come first."""
+    """Changes of a witness for SB, and large ones. Lists that are too long are a matter of the runs, names of the
+    order, whatever their numbers; choices come first."""
     whole = witness_of("[0],[0]", '"P0:2","P1:2","P0:1","P1:1"')
 
     def answer(text):
         witness = read_witness(text)
         return ANSWERED if witness and len(witness["choices"]) == 2 else WITNESS
 
-    yield from beginnings_of("a witness", whole, lambda _: WITNESS)
-    yield from bytes_replaced("a witness", whole, TELLING, answer)
-    for name, text in values_changed(json.loads(whole)):
-        yield f"a witness with {name}", text, answer(text)
+    yield from changed("a witness", whole, TELLING, answer)
     for name, text, _ in noise():
         yield f"{name} for a witness", text, WITNESS
     signs = [*SIGNS_OF_JSON, b"[[", b'{"choices":', b"9", b"1."]
@@ -361,14 +349,11 @@ def stored(name):
 
 
 def changed_certificates(what, name, telling):
-    """Every beginning of a certificate, the certificate with each byte replaced by some telling ones and each of its
-    values by others, and with much of one thing, none of which may take more time or memory than the bytes."""
+    """Changes of a certificate, and it with much of one thing, which may take no more time or memory than the bytes."""
     good = stored(name)
-    yield from beginnings_of(what, good.encode(), checked)
-    yield from bytes_replaced(what, good.encode(), telling, checked)
-    large = ((it, text) for it, text, _ in rewritten(f"large certificates {name}", good))
-    for name, text in itertools.chain(values_changed(json.loads(good)), large):
-        yield f"{what} with {name}", text, checked(text)
+    yield from changed(what, good.encode(), telling, checked)
+    large = ((f"{what} with {it}", text) for it, text, _ in rewritten(f"large certificates {name}", good))
+    yield from answered(checked, large)
 
 
 def certificates():

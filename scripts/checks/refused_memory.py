@@ -98,13 +98,9 @@ def are_built():
     return os.access(CALLS, os.X_OK) and max(map(os.path.getmtime, sources)) <= os.path.getmtime(CALLS)
 
 
-def lines_of(said):
-    return (said.out + said.err).splitlines()
-
-
 def kind(said, whole):
     """What a run with a refused request is: `same`, `again`, `stopped`, or nothing that is allowed."""
-    lines = lines_of(said)
+    lines = (said.out + said.err).splitlines()
     if said.status == 3 and lines[-1:] == STOPPED and lines[:-1] == whole[:len(lines) - 1]:
         return "stopped"
     if said.status == 0 and lines == whole:
@@ -116,7 +112,7 @@ def kind(said, whole):
 def try_part(check, library, part):
     """Refuses each request of the part, and gives what it prints with ample memory."""
     said, count = refusing(library, [CALLS, part])
-    whole, kinds = lines_of(said), collections.Counter()
+    whole, kinds = (said.out + said.err).splitlines(), collections.Counter()
     check(f"{part} with ample memory", said.status == 0 and count and whole, said)
     numbers = range(1, count + 1)
     runs = side_by_side(lambda at: refusing(library, [CALLS, part], at), numbers)

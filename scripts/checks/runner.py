@@ -6,6 +6,7 @@ it ends without its counts, and where it takes far more processor time than it s
 takes by the clock fails nothing: other work may slow it."""
 import concurrent.futures
 import contextlib
+import itertools
 import os
 import re
 import signal
@@ -28,7 +29,7 @@ class Step:
     """A check among all that run."""
 
     def __init__(self, check, words, folder):
-        self.check, self.name, self.process = check, " ".join([check.name, *words]), None
+        self.check, self.name, self.process, self.lines = check, " ".join([check.name, *words]), None, []
         self.is_behind = self.has_passed = False
         most = MUCH * (check.seconds or 0) + 60
         # (both say it where there is no such command)
@@ -36,7 +37,7 @@ class Step:
         self.command = [*limit, *(check.command or (f"{TOP}/scripts/check", check.name)), *words]
         self.log = f"{folder}/{check.name}"
 
-    def run(self):
+    def run(self, counts):
         """Runs it to its end, behind all else where it is to be. Where it has no limit, what it prints is shown as it
         comes. (Its group stays in the session, as Linux weighs priorities within one.)"""
         command = [*["nice", "-n", "19"] * self.is_behind, *self.command]
@@ -49,7 +50,7 @@ class Step:
         with contextlib.suppress(subprocess.TimeoutExpired):
             self.process.wait(LONGEST_WAIT)
         self.stop()
-        return self
+        self.report(counts)
 
     def stop(self):
         """Ends what is left of its group of processes: by an interrupt first, which lets them clean up."""
@@ -70,53 +71,36 @@ class Step:
         return f"ended with status {status}" if status and not failed else ""
 
 
-class Report(Counts):
-    """What the steps have counted, and for each a line or more."""
-
-    def __init__(self):
-        super().__init__(most_shown=float("inf"))
-        self.lines = {}
-
-    def add_step(self, step):
-        """Adds the counts of a step that has ended, and shows what it has printed. Has it passed?"""
-        text = read(step.log).decode("utf-8", "replace")
-        counts = (COUNTS.findall(text) or [None])[-1]
-        passed, failed = map(int, counts) if counts else (None, 0)
-        with self.lock:
-            print("" if step.check.seconds is None else text, end="", flush=True)
-            self.passed, self.failed = self.passed + (passed or 0), self.failed + failed
-        wrong = step.wrong(passed, failed)
+    def report(self, counts):
+        """Adds its counts to those of all, and shows what it has printed."""
+        text = read(self.log).decode("utf-8", "replace")
+        found = (COUNTS.findall(text) or [None])[-1]
+        passed, failed = map(int, found) if found else (None, 0)
+        with counts.lock:
+            print("" if self.check.seconds is None else text, end="", flush=True)
+            counts.passed, counts.failed = counts.passed + (passed or 0), counts.failed + failed
+        wrong = self.wrong(passed, failed)
         if wrong:
-            self.check(f"{step.name} {wrong}", False)
-        shown = f"{passed} passed, {failed} failed" if counts else "no counts"
-        telling = TELLING.findall(text)[:MOST_TELLING] if step.process.returncode else []
-        self.lines[step.name] = [f"{step.name}: {shown}, status {step.process.returncode}",
-                                 *[f"    {line}" for line in telling]]
-        step.has_passed = not failed and not wrong
-        return step.has_passed
-
-    def end_of(self, steps):
-        """Prints the lines in the order of the steps, and the sums, and gives the exit status."""
-        print(*[line for step in steps for line in self.lines.get(step.name, [])], sep="\n")
-        return self.end()
+            counts.check(f"{self.name} {wrong}", False)
+        shown = f"{passed} passed, {failed} failed" if found else "no counts"
+        telling = TELLING.findall(text)[:MOST_TELLING] if self.process.returncode else []
+        self.lines = [f"{self.name}: {shown}, status {self.process.returncode}", *[f"    {line}" for line in telling]]
+        self.has_passed = not failed and not wrong
 
 
-def run_rows(rows, report):
-    """Runs rows of steps side by side, those of a row one after another, the longest rows first, as many at once as
-    there are processors. Have all passed?"""
+def run_rows(rows, counts):
+    """Runs rows of steps side by side, one row a processor, the longest first, the steps of a row one after another."""
     def run_row(row):
-        return all([report.add_step(step.run()) for step in row])
+        for step in row:
+            step.run(counts)
 
     pool = concurrent.futures.ThreadPoolExecutor(PROCESSORS)
-    longest_first = sorted(rows, key=lambda row: -(row[0].check.seconds or float("inf")))
     try:
-        ended = concurrent.futures.as_completed([pool.submit(run_row, row) for row in longest_first])
-        return all([future.result() for future in ended])
+        list(pool.map(run_row, sorted(rows, key=lambda row: -(row[0].check.seconds or float("inf")))))
     finally:
         pool.shutdown(wait=False, cancel_futures=True)
-        for row in rows:
-            for step in row:
-                step.stop()
+        for step in itertools.chain(*rows):
+            step.stop()
 
 
 def program_to_check(is_built):
@@ -127,31 +111,28 @@ def program_to_check(is_built):
     return ran([f"{TOP}/scripts/program", "--find"], env=environment).out.strip()
 
 
-def look(steps, program, report, beside=()):
+def look(steps, program, counts, beside=()):
     """Runs the steps that look at this program from outside, and a row of others beside them."""
     if program:
         os.environ["RVFENCE_PROGRAM"] = program
         print(f"checked from outside: {program}", flush=True)
-        run_rows([*([beside] if beside else []), *([step] for step in steps)], report)
+        run_rows([*([beside] if beside else []), *([step] for step in steps)], counts)
     else:
-        report.check("there is a program that is up to date with its sources; ./rvfence builds it", False)
+        counts.check("there is a program that is up to date with its sources; ./rvfence builds it", False)
 
 
-def run_gate(of_gate, of_program, report):
+def run_gate(of_gate, of_program, counts):
     """Runs the steps of the gate one after another, and those of the program: beside them where the one in bin/ is of
-    the sources as they are, since the gate holds it against what it builds, else when they have ended. Returns the
-    program that was looked at."""
-    # as many proofs at once as in a build (rt reckons with more memory than they take, and leaves processors idle)
-    os.environ.setdefault("RT_JOBS", ran(["bash", "-c", f". {TOP}/scripts/build.sh && jobs_at_once"]).out.strip())
+    the sources as they are, else when they have ended. Returns the program that was looked at."""
     program = program_to_check(False)
     if os.path.dirname(program) == f"{TOP}/bin":
         for step in of_program:
             step.is_behind = True
-        look(of_program, program, report, of_gate)
+        look(of_program, program, counts, of_gate)
     else:
-        run_rows([of_gate], report)
+        run_rows([of_gate], counts)
         program = program_to_check(of_gate[0].has_passed)
-        look(of_program, program, report)
+        look(of_program, program, counts)
     return program
 
 
@@ -159,16 +140,17 @@ def run_all(checks, is_quick):
     """Runs all checks, and gives the exit status."""
     for number in (signal.SIGHUP, signal.SIGINT, signal.SIGTERM):
         signal.signal(number, lambda came, _: sys.exit(128 + came))
-    report = Report()
+    counts = Counts(most_shown=float("inf"))
     with tempfile.TemporaryDirectory() as folder:
         steps = [Step(check, check.quick * is_quick, folder) for check in checks]
         of_kind = {kind: [it for it in steps if it.check.needs == kind] for kind in (NOTHING, GATE, PROGRAM, BUILT)}
-        run_rows([[step] for step in of_kind[NOTHING]], report)
+        run_rows([[step] for step in of_kind[NOTHING]], counts)
         if is_quick:
-            look([*of_kind[PROGRAM], *of_kind[BUILT]], program_to_check(False), report)
+            look([*of_kind[PROGRAM], *of_kind[BUILT]], program_to_check(False), counts)
         else:
-            look(of_kind[BUILT], run_gate(of_kind[GATE], of_kind[PROGRAM], report), report)
-    return report.end_of(steps)
+            look(of_kind[BUILT], run_gate(of_kind[GATE], of_kind[PROGRAM], counts), counts)
+    print(*[line for step in steps for line in step.lines], sep="\n")
+    return counts.end()
 
 
 def show(checks):

@@ -22,8 +22,7 @@ def blocks_of(path):
 
 
 class Transcripts:
-    """A run, and its folder with the examples and, where it is wanted, the program. Commands call functions of a file,
-    and each may take so many seconds of processor time."""
+    """A run, with the examples in its folder, and the program where it is wanted. Commands call functions of a file."""
 
     def __init__(self, run, seconds=LONGEST, functions=f"{FOLDER}/functions.sh", has_program=True):
         self.folder, self.check, self.expect = run.folder, run.check, run.expect

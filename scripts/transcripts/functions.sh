@@ -45,20 +45,15 @@ filled() {
 # The test of harts with these cells, an argument for each of at most three, and of the condition behind them, with its
 # quantifier. Each hart has the addresses of x in x6 and of y in x8, and 1 in x10.
 test_of() {
-    local hart at columns='P0 | P1 | P2' init='H:x6=x; H:x8=y; H:x10=1; ' inits='' row cells
-    local -a column
+    local hart columns='P0 | P1 | P2' init='H:x6=x; H:x8=y; H:x10=1; ' inits=''
+    local -a cells=()
     for ((hart = 0; hart < $# - 1; hart++)); do
         inits+=${init//H/$hart}
+        cells+=("$own/cells.$hart")
+        tr ';' '\n' <<<"${@:hart+1:1}" >"$own/cells.$hart"
     done
     printf 'RISCV said\n{ %s}\n%s ;\n' "$inits" "${columns:0:$((5 * $# - 8))}"
-    for at in 0 1 2 3; do
-        row=''
-        for cells in "${@:1:$#-1}"; do
-            IFS=';' read -r -a column <<<"$cells"
-            row+="| ${column[at]}"
-        done
-        echo "${row#|} ;"
-    done
+    paste -d '|' "${cells[@]}" | sed 's/$/ ;/'
     echo "${!#}"
 }
 

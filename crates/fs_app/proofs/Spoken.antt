@@ -67,7 +67,7 @@ says_forbidden t kind.Vacuous why w forbidden says = absurd (false≢true forbid
 says_forbidden t kind.Faulty why w forbidden says = absurd (false≢true forbidden)
 
 no_text : (t : Test) → Reads [] t → ⊥
-no_text t reads = absurd (let none = reads.has_form.has_tokens.after_title in cc)
+no_text t reads = absurd (let none = reads.has_form.has_tokens.has_body.after_title in cc)
 
 some_once : (w : Option Witness) (v u : Witness) → w ≡ Some v → w ≡ Some u → v ≡ u
 some_once w v u e k = cc

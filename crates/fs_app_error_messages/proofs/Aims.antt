@@ -7,7 +7,7 @@ use Rattle.fs_kinds.specs.declared.fault.Fault.{Fault}
 use Rattle.fs_kinds.specs.declared.fault.Fault.TheVariants.{BadUtf8, NotRiscv, Syntax, UnknownInstr, BadAnnotation, BadLabel, BadInit, BadCondition, TooBig, BadPrices, NoTop, BadFence, TooManyTraces, Astray, TooManyCandidates, NodeLimit, BadWitness, BadCertificate, Memory, ReadFault, WriteFault, Unmatched, StrangePass}
 use Rattle.fs_litmus_tokens.specs.Tokens.{Lined}
 use Rattle.fs_litmus.specs.Reads.{HasTokens}
-use Rattle.fs_litmus.specs.Title.{after_line, IsBody}
+use Rattle.fs_litmus.specs.Title.{HasBody}
 use Rattle.fs_litmus.specs.Faults.{HasFault, IsTestFault}
 use Rattle.fs_litmus.proofs.FrontFaults.{tokens_once}
 use Rattle.fs_app_error_messages.specs.Apart.{apart}
@@ -69,7 +69,7 @@ other_fault_in file found f n is absent h =
     let same = first_same file found h.found is h.is_fault in
     absent (same.0 ∙ h.same_number) n (same.1 ∙ h.in_line)
 
--- only F2 is pointed at by the first byte
+-- only F2 is pointed at by the title's line
 pub titled : (f : Fault) → aim_of f ≡ Title → f ≡ NotRiscv
 titled NotRiscv e = refl
 titled BadUtf8 e = absurd (cc)
@@ -159,13 +159,13 @@ open_atom bytes ts h =
     (λ fault. let has = form_of_fault fault in open_form bytes ts h has.2.tokens has.2.has_tokens)
 
 -- no tokens where no block of initial values begins
-pub no_tokens : (bytes : List ℕ) (ts : List Lined) (closed : Bool) → ((doc body : List ℕ) (at : ℕ) → after_line bytes ≡ Some doc → ¬ IsBody doc 2 body at) → ¬ HasTokens bytes ts closed
-no_tokens bytes ts closed none h = none h.doc h.body h.line h.after_title h.is_body
+pub no_tokens : (bytes : List ℕ) (ts : List Lined) (closed : Bool) → ((body : List ℕ) (line : ℕ) → ¬ HasBody bytes body line) → ¬ HasTokens bytes ts closed
+no_tokens bytes ts closed none h = none h.body h.line h.has_body
 
-pub fault_nowhere : (bytes : List ℕ) (f : Fault) (n : ℕ) → ((doc body : List ℕ) (at : ℕ) → after_line bytes ≡ Some doc → ¬ IsBody doc 2 body at) → ¬ IsFaultOf bytes f n
+pub fault_nowhere : (bytes : List ℕ) (f : Fault) (n : ℕ) → ((body : List ℕ) (line : ℕ) → ¬ HasBody bytes body line) → ¬ IsFaultOf bytes f n
 fault_nowhere bytes f n none of = no_tokens bytes of.tokens of.closed none of.has_tokens
 
-pub atom_nowhere : (bytes : List ℕ) → ((doc body : List ℕ) (at : ℕ) → after_line bytes ≡ Some doc → ¬ IsBody doc 2 body at) → IsNowhere bytes BadCondition
+pub atom_nowhere : (bytes : List ℕ) → ((body : List ℕ) (line : ℕ) → ¬ HasBody bytes body line) → IsNowhere bytes BadCondition
 atom_nowhere bytes none =
     no_place_of_atom bytes (λ n of. no_tokens bytes of.tokens true none of.has_tokens)
     (λ fault. let has = form_of_fault fault in no_tokens bytes has.2.tokens true none has.2.has_tokens)

@@ -1,5 +1,4 @@
 pub mod Walking
-pub mod Titles
 pub mod Pointing
 pub mod Showing
 pub mod Telling

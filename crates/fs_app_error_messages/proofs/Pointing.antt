@@ -1,10 +1,10 @@
 -- Where the token of a fault begins.
-use Rattle.std.proofs.Common.{◌≡◌, ℕ, ◌+◌, ◌≤◌, List, Bool, Some, sym, ap, ◌∙◌, subst, length, length-drop, drop, arith}
+use Rattle.std.proofs.Common.{◌≡◌, ℕ, ◌+◌, ◌≤◌, List, Bool, sym, ap, ◌∙◌, subst, length, length-drop, drop, arith}
 use Rattle.std.proofs.lemmas.List.{drop-drop, length-map}
 use Rattle.fs_kinds.specs.declared.fault.Fault.{Fault}
 use Rattle.fs_litmus_tokens.specs.declared.token.Token as tokens
 use Rattle.fs_litmus_tokens.specs.Tokens.{AreTokens, view, views}
-use Rattle.fs_litmus.specs.Title.{after_line, IsBody}
+use Rattle.fs_litmus.specs.Title.{HasBody}
 use Rattle.fs_litmus.specs.Reads.{HasTokens}
 use Rattle.fs_app_error_messages.specs.Apart.{apart}
 use Rattle.fs_app_error_messages.specs.Walks.{BeginsAt}
@@ -12,13 +12,10 @@ use Rattle.fs_app_error_messages.proofs.Relined.{relined}
 use Rattle.fs_app_error_messages.specs.Points.{aim_of, IsFaultIn, IsFaultOf, IsPastTokens, IsTokenAt}
 use Rattle.fs_app_error_messages.specs.declared.point.Aim.TheVariants.{InLine}
 
-abbrev pub HasBody : List ℕ → ℕ → ℕ → Type 0
-HasBody bytes start line = (doc : List ℕ) × (after_line bytes ≡ Some doc) × IsBody doc 2 (drop start bytes) line
-
-module _ (bytes text : List ℕ) (start line : ℕ) (has_body : HasBody bytes start line) (is_text : text ≡ drop start bytes) where
+module _ (bytes text : List ℕ) (start line : ℕ) (has_body : HasBody bytes (drop start bytes) line) (is_text : text ≡ drop start bytes) where
   pub tokens_of : (made lent : List tokens.Token) (closed : Bool) → lent ≡ made → AreTokens text line (views made) closed → HasTokens bytes (views lent) closed
   tokens_of made lent closed same are =
-      record { doc = has_body.0; after_title = has_body.1; body = drop start bytes; line = line; is_body = has_body.2; are_tokens = subst (λ l. AreTokens l line (views lent) closed) is_text (subst (λ l. AreTokens text line (views l) closed) (sym same) are) }
+      record { body = drop start bytes; line = line; has_body = has_body; are_tokens = subst (λ l. AreTokens l line (views lent) closed) is_text (subst (λ l. AreTokens text line (views l) closed) (sym same) are) }
 
   pub fault_of : (made lent : List tokens.Token) (closed : Bool) (f : Fault) (n : ℕ) → lent ≡ made → AreTokens text line (views made) closed → aim_of f ≡ InLine → IsFaultIn (apart (views lent) closed) f n → IsFaultOf bytes f n
   fault_of made lent closed f n same are has_line fault =
@@ -33,7 +30,7 @@ module _ (bytes text : List ℕ) (start line : ℕ) (has_body : HasBody bytes st
   pub token_at : (n at : ℕ) → BeginsAt n text (drop at text) → IsTokenAt bytes n (start + at)
   token_at n at h =
       let same : drop at text ≡ drop (start + at) bytes = ap (drop at) is_text ∙ drop-drop at start bytes in
-      record { doc = has_body.0; after_title = has_body.1; body = drop start bytes; line = line; is_body = has_body.2; begins = subst (λ l. BeginsAt n l (drop (start + at) bytes)) is_text (subst (λ l. BeginsAt n text l) same h) }
+      record { body = drop start bytes; line = line; has_body = has_body; begins = subst (λ l. BeginsAt n l (drop (start + at) bytes)) is_text (subst (λ l. BeginsAt n text l) same h) }
 
 pub within_text : (bytes text : List ℕ) (start : ℕ) → text ≡ drop start bytes → start ≤ length bytes → start + length text ≤ length bytes
 within_text bytes text start e h =

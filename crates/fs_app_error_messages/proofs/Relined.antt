@@ -119,14 +119,15 @@ in_lines_tokens (t ∷ ts) line closed r =
 
 -- ---- the file
 
+abbrev braced_text : List Lined → Bool → List ℕ
+braced_text ts closed = codes "{" ++ in_lines ts ++ ending closed
+
 -- a file whose first token is {
 braced : (l : ℕ) (ts : List Lined) (closed : Bool) → AreRead ts → HasTokens (apart ((Sign mark.OpenBrace, l) ∷ ts) closed) (renumbered 2 ((Sign mark.OpenBrace, l) ∷ ts)) closed
 braced l ts closed r = record {
-  doc = codes "{" ++ in_lines ts ++ ending closed;
-  after_title = refl;
-  body = codes "{" ++ in_lines ts ++ ending closed;
+  body = braced_text ts closed;
   line = 2;
-  is_body = here refl;
+  has_body = record { doc = braced_text ts closed; after_title = refl; is_body = here refl };
   are_tokens = below_token (Sign mark.OpenBrace) ts 2 _ closed tt (in_lines_tokens ts 2 closed r);
 }
 
@@ -148,6 +149,6 @@ begins_brace (later e f h) = begins_brace h
 -- the tokens of a file stand apart in the lines from 2 on
 pub relined : (bytes : List ℕ) (ts : List Lined) (closed : Bool) → HasTokens bytes ts closed → HasTokens (apart ts closed) (renumbered 2 ts) closed
 relined bytes ts closed h =
-    let first = first_brace (begins_brace h.is_body) h.are_tokens in
+    let first = first_brace (begins_brace h.has_body.is_body) h.are_tokens in
     let read = subst AreRead first.2 (are_read h.are_tokens) in
     subst (λ l. HasTokens (apart l closed) (renumbered 2 l) closed) (sym first.2) (braced first.0 first.1 closed read.1)

@@ -5,7 +5,7 @@ use Rattle.fs_kinds.specs.FaultLine.{number}
 use Rattle.fs_kinds.specs.declared.fault.Fault.{Fault}
 use Rattle.fs_kinds.specs.declared.fault.Fault.TheVariants.{BadUtf8, NotRiscv, BadCondition, Syntax, UnknownInstr, BadAnnotation, BadLabel, BadInit}
 use Rattle.fs_litmus_tokens.specs.Tokens.{Lined}
-use Rattle.fs_litmus.specs.Title.{after_line, IsBody}
+use Rattle.fs_litmus.specs.Title.{top_of, HasBody}
 use Rattle.fs_litmus.specs.Reads.{HasTokens}
 use Rattle.fs_litmus.specs.Faults.{HasFault, IsTestFault}
 use Rattle.fs_app_error_messages.specs.Apart.{apart, renumbered}
@@ -56,11 +56,9 @@ pub record IsFaultOf (bytes : List ℕ) (f : Fault) (n : ℕ) : Type 0 where
 
 -- token number n of a test file begins at this offset
 pub record IsTokenAt (bytes : List ℕ) (n offset : ℕ) : Type 0 where
-  pub doc : List ℕ
-  pub after_title : after_line bytes ≡ Some doc
   pub body : List ℕ
   pub line : ℕ
-  pub is_body : IsBody doc 2 body line
+  pub has_body : HasBody bytes body line
   pub begins : BeginsAt n body (drop offset bytes)
 
 -- there is no token of this number
@@ -78,12 +76,16 @@ is_line_end (Some b) = b == 10
 abbrev pub end_of : List ℕ → ℕ
 end_of bytes = if is_line_end (slice_get bytes (length bytes - 1)) then length bytes - 1 else length bytes
 
+-- the offset at which the line begins that should be the title's
+abbrev pub title_start : List ℕ → ℕ
+title_start bytes = length bytes - length (top_of bytes).0
+
 -- where a fault is pointed at; those from F9 on nowhere
 pub data IsPoint (bytes : List ℕ) : Fault → Point → Type 0 where
   -- the first byte that isn't UTF-8
   encoding : {n : ℕ} → ¬ IsUtf8 bytes → IsValidUpTo bytes n → IsPoint bytes BadUtf8 (Byte n)
-  -- the first byte of the file
-  title : IsPoint bytes NotRiscv (Byte 0)
+  -- the first byte of the line that should be the title's
+  title : IsPoint bytes NotRiscv (Byte (title_start bytes))
   -- the token that a fault with a line is of
   token : {f : Fault} {n offset : ℕ} → IsFaultOf bytes f n → IsTokenAt bytes n offset → IsPoint bytes f (Token n offset)
   -- the first token of the first atom that can't be true or false

@@ -10,7 +10,7 @@ use crate::hints::{Spot, label_words, mnemonic_words, syntax_words};
 use crate::message::message;
 use crate::point::{Point, point_of};
 use crate::slices::from;
-use crate::title::body_start;
+use crate::title::{body_start, title_start};
 use crate::walk::{begins, is_blank};
 use fs_kinds::{Fault, Limit};
 use fs_litmus::read_test;
@@ -55,15 +55,17 @@ fn whole_words(fault: Fault) -> &'static str {
     }
 }
 
-/// What is said of a first line that is no title.
-fn title_words(bytes: &[u8]) -> &'static str {
-    if begins(b'C', bytes) && begins(b' ', from(bytes, 1)) {
+/// What is said of a text whose first line is no title.
+fn title_words(text: &[u8]) -> &'static str {
+    if begins(b'C', text) && begins(b' ', from(text, 1)) {
         return "a C test: `scripts/from-c` prints it as a RISC-V test";
     }
-    match bytes.first() {
-        Some(byte) if *byte == b'(' || *byte == b'\n' || is_blank(*byte) =>
-            "the first line must be `RISCV`, a blank and a name: comments and blanks stand below it",
-        _ => "the first line must be `RISCV`, a blank and a name",
+    match text.first() {
+        Some(byte) if *byte == 0xef =>
+            "a byte order mark, or another character, stands before `RISCV`",
+        Some(byte) if *byte == b'(' => "a comment above the title ends in a line of its own",
+        Some(byte) if is_blank(*byte) => "the title begins in the first column of its line",
+        _ => "expected `RISCV`, a blank and a name, below blank lines and comments alone",
     }
 }
 
@@ -109,7 +111,7 @@ pub(crate) fn hint_of(
 ) -> Result<&'static str, AllocError> {
     match fault {
         Fault::BadUtf8 => Ok("this byte isn't UTF-8"),
-        Fault::NotRiscv => Ok(title_words(bytes)),
+        Fault::NotRiscv => Ok(title_words(from(bytes, title_start(bytes)))),
         Fault::Syntax { .. }
         | Fault::UnknownInstr { .. }
         | Fault::BadAnnotation { .. }
@@ -117,7 +119,7 @@ pub(crate) fn hint_of(
         | Fault::BadInit { .. }
         | Fault::BadCondition => match body_start(bytes) {
             Some(start) => token_words(alloc, bytes, start, fault, point),
-            None => Ok("no line below the first begins with `{`"),
+            None => Ok("no line below the title's begins with `{`"),
         },
         _ => Ok(whole_words(fault)),
     }

@@ -65,6 +65,14 @@ fn is_this_word(kind: Kind<'_>, word: &str) -> bool {
     }
 }
 
+/// What is said of a character that begins no token.
+const STRANGE_WORDS: &str =
+    "this character is no token: comments are `(* .. *)`; sums, as `x+4`, and strings are left out";
+
+/// What is said of a label that is no name or number.
+const LABEL_WORDS: &str =
+    "a label is a name without a `.`, as `L1`, or a number, as `1`, to which branches go by `1f`";
+
 /// What is said of an array.
 const ARRAY_WORDS: &str = "arrays are left out: write a location for each element";
 
@@ -86,7 +94,8 @@ fn init_words(spot: Spot<'_, '_>) -> &'static str {
         Kind::Sign(Mark::OpenBracket) => ARRAY_WORDS,
         Kind::Sign(Mark::Comma) => "expected `;`: entries end with it",
         Kind::Sign(Mark::Colon) => HART_WORDS,
-        Kind::Strange => "this character is no token: sums, as `x+4`, and strings are left out",
+        Kind::Strange => STRANGE_WORDS,
+        Kind::Sign(Mark::Minus) if is_word(spot.back(1)) => "sums, as `x-4`, are left out",
         Kind::Word(_, _) => second_word(spot),
         _ => "expected an entry and `;`, as `x=1;` or `0:x6=x;`",
     }
@@ -111,11 +120,22 @@ fn second_word(spot: Spot<'_, '_>) -> &'static str {
     "expected `=` and a value, or `;`: a type stands before what it is the type of"
 }
 
+/// In the header.
+fn header_words(spot: Spot<'_, '_>) -> &'static str {
+    match spot.ahead(0) {
+        Some(Kind::Strange) => STRANGE_WORDS,
+        _ => "expected the header, a column for each hart, as `P0 | P1 ;`",
+    }
+}
+
 /// In the rows.
 fn rows_words(spot: Spot<'_, '_>) -> &'static str {
     let Some(found) = spot.ahead(0) else {
         return end_words(spot.tokens);
     };
+    if is_this_word(found, "filter") {
+        return FILTER_WORDS;
+    }
     match found {
         Kind::Sign(Mark::Semicolon) if !has_filter(spot.tokens) =>
             "the row has too few cells: one for each hart, split by `|`",
@@ -128,7 +148,7 @@ fn rows_words(spot: Spot<'_, '_>) -> &'static str {
 }
 
 const FILTER_WORDS: &str =
-    "`filter` is left out: write its condition into the other one, with `/\\`";
+    "`filter F` is left out: write `F /\\ C` for the condition `C`, and behind `forall` `F => C`";
 
 /// Is one of the tokens the word `filter`?
 fn has_filter(tokens: &[Token<'_>]) -> bool {
@@ -152,15 +172,15 @@ fn end_words(tokens: &[Token<'_>]) -> &'static str {
 fn is_foreign(found: Kind<'_>) -> bool {
     matches!(
         found,
-        Kind::Strange
-            | Kind::Sign(
-                Mark::Equals
-                    | Mark::Star
-                    | Mark::Ampersand
-                    | Mark::Less
-                    | Mark::Greater
-                    | Mark::Bang
-            )
+        Kind::Sign(
+            Mark::Bar
+                | Mark::Equals
+                | Mark::Star
+                | Mark::Ampersand
+                | Mark::Less
+                | Mark::Greater
+                | Mark::Bang
+        )
     )
 }
 
@@ -173,12 +193,14 @@ fn condition_words(spot: Spot<'_, '_>) -> &'static str {
         return "nothing may stand behind the `;` that ends the condition";
     }
     if is_mark(spot.ahead(1), Mark::Greater) {
-        return "an implication is written `A => B`";
+        return arrow_words(spot);
     }
     if is_foreign(found) || is_mark(spot.back(1), Mark::Less) || is_mark(spot.back(1), Mark::Bang) {
         return "of comparisons `=`, `==`, `<>` and `!=` are read, and of connectives `/\\`, `\\/`, `=>`, `~` and `not`";
     }
     match found {
+        Kind::Strange => STRANGE_WORDS,
+        Kind::Sign(Mark::OpenBracket) if is_word(spot.back(1)) => ARRAY_WORDS,
         Kind::Sign(Mark::Colon) => colon_words(spot),
         Kind::Sign(Mark::Semicolon) =>
             "a `;` ends the condition: an atom, or a `)`, is missing before it",
@@ -186,6 +208,20 @@ fn condition_words(spot: Spot<'_, '_>) -> &'static str {
             "expected `/\\`, `\\/`, or the end of the condition or of its parentheses",
         _ => "expected an atom as `0:x5=1` or `x=1`",
     }
+}
+
+/// An arrow: behind a name that is no value it leads to a field.
+fn arrow_words(spot: Spot<'_, '_>) -> &'static str {
+    match spot.back(1) {
+        Some(Kind::Word(Class::Name, _)) if !is_sign_end(spot.back(2)) =>
+            "fields, as `x->y`, are left out: write a location for each",
+        _ => "an implication is written `A => B`",
+    }
+}
+
+/// Does the sign of an atom end here?
+fn is_sign_end(kind: Option<Kind<'_>>) -> bool {
+    is_mark(kind, Mark::Equals) || is_mark(kind, Mark::Greater)
 }
 
 /// A `:` that doesn't stand behind a hart's number at the front of an atom.
@@ -218,7 +254,30 @@ fn cell_words(cell: Spot<'_, '_>) -> &'static str {
     let Some(op) = Op::of(word) else {
         return unknown_words(word);
     };
+    if has_label(op) && has_other_word(spot) {
+        return LABEL_WORDS;
+    }
     operand_words(op)
+}
+
+/// Does the instruction name a label?
+fn has_label(op: Op) -> bool {
+    matches!(
+        op,
+        Op::Branch(_) | Op::Swapped(_) | Op::BranchZero(_) | Op::ZeroBranch(_) | Op::J | Op::Jal
+    )
+}
+
+/// Stands a word that is no name behind this one in its cell?
+fn has_other_word(spot: Spot<'_, '_>) -> bool {
+    for count in 1..spot.tokens.len() {
+        match spot.ahead(count) {
+            Some(Kind::Word(Class::Number | Class::Other, _)) => return true,
+            Some(Kind::Sign(Mark::Bar | Mark::Semicolon)) => return false,
+            _ => {}
+        }
+    }
+    false
 }
 
 /// Where the form breaks; it may be met as a whole.
@@ -260,7 +319,7 @@ pub(crate) fn syntax_words(
     }
     Ok(match section {
         Section::Init => init_words(spot),
-        Section::Header => "expected the header, a column for each hart, as `P0 | P1 ;`",
+        Section::Header => header_words(spot),
         Section::Rows => rows_words(spot),
         Section::Condition => condition_words(spot),
         Section::Cell => cell_words(spot),
@@ -278,7 +337,7 @@ pub(crate) fn label_words(spot: Spot<'_, '_>) -> &'static str {
 /// What is said of a mnemonic that isn't of the profile.
 pub(crate) fn mnemonic_words(spot: Spot<'_, '_>) -> &'static str {
     if is_mark(spot.ahead(1), Mark::Colon) {
-        return "a label is a name, as `L1:`, without a `.` and not begun by a digit";
+        return LABEL_WORDS;
     }
     match spot.ahead(0) {
         Some(Kind::Word(_, word)) => unknown_words(word),

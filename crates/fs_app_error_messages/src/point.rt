@@ -1,12 +1,12 @@
 //! Which token of a test file a fault is of, and where it begins.
 
 ghost use Rattle.std.specs.Bool.{Decides};
-ghost use Rattle.std.specs.Prelude.{◌≡◌, ◌≢◌, ◌+◌, ◌≤◌, ◌<◌, ◌^◌, ℕ, List, length, drop, IfOk, IfSome, IsNone, Some};
+ghost use Rattle.std.specs.Prelude.{◌≡◌, ◌≢◌, ◌+◌, ◌≤◌, ◌<◌, ◌^◌, ℕ, length, drop, IfOk, IfSome, IsNone, Some};
 ghost use Rattle.std.specs.Str.{IsUtf8, IsValidUpTo};
 ghost use Rattle.fs_kinds.specs.FaultLine.{number};
 ghost use Rattle.fs_kinds.specs.declared.fault.Fault.{Fault};
 ghost use Rattle.fs_litmus_tokens.specs.Tokens.{views};
-ghost use Rattle.fs_litmus.specs.Title.{after_line, IsBody};
+ghost use Rattle.fs_litmus.specs.Title.{HasBody};
 ghost use Rattle.fs_litmus.specs.Reads.{HasTokens};
 ghost use Rattle.fs_litmus.specs.Faults.{IsTestFault};
 ghost use Rattle.fs_app_error_messages.specs.Apart.{apart};
@@ -16,7 +16,7 @@ ghost use Rattle.fs_app_error_messages.specs.Points.{IsPoint};
 use crate::apart::apart;
 use crate::condition::atom_number;
 use crate::slices::from;
-use crate::title::body_start;
+use crate::title::{body_start, title_start};
 use crate::walk::token_start;
 use fs_kinds::Fault;
 use fs_litmus::read_test;
@@ -37,7 +37,7 @@ pub enum Point {
 enum Aim {
     /// The first byte that isn't UTF-8.
     Encoding,
-    /// The first byte of the file.
+    /// The first byte of the title's line.
     Title,
     /// The token that it is of, in its line.
     InLine,
@@ -123,7 +123,7 @@ fn text_point(
     line: usize,
     fault: Fault,
 ) -> Result<Option<Point>, AllocError>
-    requires body { (doc : List ℕ) × (after_line bytes.now ≡ Some doc) × IsBody doc 2 (drop start bytes.now) line }
+    requires body { HasBody bytes.now (drop start bytes.now) line }
     requires within { start ≤ length bytes.now }
     requires few { line ≤ start + 1 }
     requires aim { aim_of fault ≡ Aim.InLine }
@@ -174,7 +174,7 @@ fn atom_point(
     start: usize,
     line: usize,
 ) -> Result<Option<Point>, AllocError>
-    requires body { (doc : List ℕ) × (after_line bytes.now ≡ Some doc) × IsBody doc 2 (drop start bytes.now) line }
+    requires body { HasBody bytes.now (drop start bytes.now) line }
     requires within { start ≤ length bytes.now }
     requires few { line ≤ start + 1 }
     ensures { IfOk result (IsPlaced bytes.now Fault.BadCondition) }
@@ -230,7 +230,7 @@ pub fn point_of(alloc: Global, bytes: &[u8], fault: Fault) -> Result<Option<Poin
 {
     match aim_of(fault) {
         Aim::Encoding => Ok(encoding_point(bytes)),
-        Aim::Title => Ok(Some(Point::Byte(0))),
+        Aim::Title => Ok(Some(Point::Byte(title_start(bytes)))),
         Aim::InLine => form_point(alloc, bytes, fault),
         Aim::Atom => condition_point(alloc, bytes),
         Aim::Nowhere => Ok(None),

@@ -4,7 +4,7 @@ use Rattle.std.specs.Option.{is_none}
 use Rattle.std.specs.List.{find}
 use Rattle.std.proofs.lemmas.Bool.{and_from}
 use Rattle.std.proofs.lemmas.List.{at_drop_more, drop-map, drop-drop}
-use Rattle.fs_litmus.specs.Title.{after_line, IsBody}
+use Rattle.fs_litmus.specs.Title.{HasBody}
 use Rattle.fs_litmus.specs.Reads.{HasTokens}
 use Rattle.fs_model.specs.declared.test.Test.{Test}
 use Rattle.fs_litmus_tokens.specs.declared.token.Token as tokens
@@ -12,13 +12,9 @@ use Rattle.fs_litmus_tokens.specs.Tokens.{AreTokens, kind_of, view, views}
 use Rattle.fs_app_states.specs.Listed.{is_brace, below, is_locations_word, begins_with_bracket, behind}
 use Rattle.fs_app_states.specs.Names.{place_of}
 
--- the block of initial values begins at this offset, in this line
-abbrev pub HasBody : List ℕ → ℕ → ℕ → Type 0
-HasBody bytes start line = (doc : List ℕ) × (after_line bytes ≡ Some doc) × IsBody doc 2 (drop start bytes) line
-
-pub tokens_of : (bytes text : List ℕ) (start line : ℕ) → HasBody bytes start line → text ≡ drop start bytes → (made lent : List tokens.Token) (closed : Bool) → lent ≡ made → AreTokens text line (views made) closed → HasTokens bytes (views lent) closed
+pub tokens_of : (bytes text : List ℕ) (start line : ℕ) → HasBody bytes (drop start bytes) line → text ≡ drop start bytes → (made lent : List tokens.Token) (closed : Bool) → lent ≡ made → AreTokens text line (views made) closed → HasTokens bytes (views lent) closed
 tokens_of bytes text start line has_body is_text made lent closed same are =
-    record { doc = has_body.0; after_title = has_body.1; body = drop start bytes; line = line; is_body = has_body.2; are_tokens = subst (λ l. AreTokens l line (views lent) closed) is_text (subst (λ l. AreTokens text line (views l) closed) (sym same) are) }
+    record { body = drop start bytes; line = line; has_body = has_body; are_tokens = subst (λ l. AreTokens l line (views lent) closed) is_text (subst (λ l. AreTokens text line (views l) closed) (sym same) are) }
 
 pub below_here : (ts : List tokens.Token) (i : ℕ) (d : tokens.Token) → i < length ts → is_brace (kind_of (get_or ts i d).kind) ≡ true → views (drop (i + 1) ts) ≡ below (views (drop i ts))
 below_here ts i d low brace =

@@ -57,8 +57,8 @@ impl Model for Problem {
     ghost invariant = { λ p. IsReady (arc_value p.test) p.basis };
 }
 
-/// What hunts over the runs of the test. F15 where some location may get 11 stores or more, and there are too many
-/// candidates or lists of runs; else the error is F19.
+/// What hunts over the runs of the test. F15 where a hart may store 11 times or more to one location in one run, and
+/// there are too many candidates or lists of runs; else the error is F19.
 fn hunter_over(alloc: Global, basis: &Basis) -> Result<Hunter, Fault>
     requires listable { CanBeListed basis.now }
     requires starts { All IsStart basis.now.starts }
@@ -88,9 +88,9 @@ impl Problem {
         Ok(problem)
     }
 
-    /// The same of a test whose runs are found. The fault is F15 where some location may get 11 stores or more, and
-    /// there are too many candidates or lists of runs; or F19. The cost is that of `hunter_of`, and where so many
-    /// stores are possible that of `check_number`.
+    /// The same of a test whose runs are found. The fault is F15 where a hart may store 11 times or more to one
+    /// location in one run, and there are too many candidates or lists of runs; or F19. The cost is that of
+    /// `hunter_of`, and where so many stores are possible that of `check_number`.
     pub fn over(alloc: Global, test: Arc<Test>, basis: Basis) -> Result<Problem, Fault>
         requires same { basis ≡ arc_value test }
         requires listable { CanBeListed (arc_value test) }

@@ -121,9 +121,9 @@ fn all_states(
 /// at the first place before the others. The test's condition plays no part. The placement is one of the test's
 /// slots, and the places are the test's own.
 ///
-/// The fault is F13 or F14 where a hart's runs can't be listed; else F15 where some location may get 11 stores or
-/// more and there are too many candidates or lists of runs, where no hunt gives a verdict and there are too many
-/// candidates, or where there are more than 200,000 states; or F19.
+/// The fault is F13 or F14 where a hart's runs can't be listed; else F15 where a hart may store 11 times or more to
+/// one location in one run and there are too many candidates or lists of runs, where no hunt gives a verdict and there
+/// are too many candidates, or where there are more than 200,000 states; or F19.
 ///
 /// The cost: that of `Problem::new` of fs_judge; and for each state, and for each beginning of a state that isn't
 /// whole, at most four checks of an execution, by `shown_by` of fs_check, and a verdict on the test with another

@@ -32,20 +32,13 @@ fn most_stores(hart: &Hart, location: u8) -> usize {
     most
 }
 
-/// The sum of these, over the harts.
-fn all_stores(harts: &[Hart], location: u8) -> usize {
-    let mut total: usize = 0;
-    for hart in harts {
-        total = total.saturating_add(most_stores(hart, location));
-    }
-    total
-}
-
-/// May some location get so many stores of the harts?
+/// May one of the harts, in one run, store so often to one location?
 pub(crate) fn may_store_often(harts: &[Hart], least: usize) -> bool {
-    for location in 0..MOST_LOCATIONS as u8 {
-        if all_stores(harts, location) >= least {
-            return true;
+    for hart in harts {
+        for location in 0..MOST_LOCATIONS as u8 {
+            if most_stores(hart, location) >= least {
+                return true;
+            }
         }
     }
     false

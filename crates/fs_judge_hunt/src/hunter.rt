@@ -23,7 +23,7 @@ use std::sync::Arc;
 /// At how many regions a short hunt looks.
 const FEW_LOOKS: usize = 200;
 
-/// So many stores to one location are many.
+/// So many stores of one hart to one location, in one run, are many: they have 39,916,800 orders.
 const MANY_STORES: usize = 11;
 
 /// What each run of each hart does, as rows of bits: all that doesn't depend on the condition.
@@ -164,8 +164,7 @@ impl Hunter {
         })
     }
 
-    /// May some location get eleven stores or more? That is the sum, over the harts, of the most stores to it in one
-    /// run. In constant time.
+    /// May a hart store eleven times or more to one location in one run? In constant time.
     pub fn has_many_stores(&self) -> bool {
         self.runs.has_many_stores
     }

@@ -1,6 +1,6 @@
--- The faults of a text before its meaning: of its encoding, its first line and its form. Each comes before those that
+-- The faults of a text before its meaning: of its encoding, its title and its form. Each comes before those that
 -- its form may have.
-use Rattle.std.proofs.Common.{◌≡◌, inl, inr, ℕ, ◌≤◌, List, Bool, true, false, Some, refl, sym, ap, subst, arith, IsUtf8}
+use Rattle.std.proofs.Common.{◌≡◌, inl, inr, ℕ, ◌+◌, ◌≤◌, List, Bool, true, false, Some, refl, sym, ap, subst, arith, IsUtf8}
 use Rattle.fs_kinds.specs.FaultLine.{number}
 use Rattle.fs_kinds.specs.declared.fault.Fault.{Fault}
 use Rattle.fs_kinds.specs.declared.fault.Fault.TheVariants.{BadUtf8, NotRiscv, Syntax}
@@ -14,7 +14,7 @@ use Rattle.fs_litmus_syntax.specs.Cells.{Item, IsCellFault, syntax, unknown, ann
 use Rattle.fs_litmus_syntax.specs.Labels.{IsTwice, again, later as later_twice, IsStray, missing, behind, IsLabelFault, twice, stray}
 use Rattle.fs_litmus_syntax.specs.Codes.{IsHartFault, of_cell, of_label, IsFault, fault}
 use Rattle.fs_kinds.specs.FaultOrder.{IsNoLater, IsFirst}
-use Rattle.fs_litmus.specs.Title.{after_line, last_line, HasTitle, IsBody}
+use Rattle.fs_litmus.specs.Title.{after_line, last_line, top_of, HasTitle, IsBody, HasBody}
 use Rattle.fs_litmus.specs.Reads.{HasTokens, HasForm}
 use Rattle.fs_litmus.specs.Faults.{IsText, line_at, IsBroken, no_block, token, comment, IsFormFault, code, entry, atom, limit, HasFault, encoding, title, form, meaning}
 use Rattle.fs_litmus.proofs.CodeFaults.{code_low}
@@ -23,14 +23,16 @@ use Rattle.fs_litmus.proofs.TextStops.{stops_once, stops_at_end, whole_never_sto
 
 -- ---- a text has one body, one list of tokens and one form
 
-pub same_body : (bytes doc other body its : List ℕ) (line at : ℕ) → after_line bytes ≡ Some doc → after_line bytes ≡ Some other → IsBody doc 2 body line → IsBody other 2 its at → (body ≡ its) × (line ≡ at)
-same_body bytes doc other body its line at e f h k =
-    let same : other ≡ doc = cc in
-    body_once h (subst (λ d. IsBody d 2 its at) same k)
+pub same_body : (bytes body its : List ℕ) (line at : ℕ) → HasBody bytes body line → HasBody bytes its at → (body ≡ its) × (line ≡ at)
+same_body bytes body its line at h k =
+    let below = h.after_title in
+    let other : after_line (top_of bytes).0 ≡ Some k.doc = k.after_title in
+    let same : k.doc ≡ h.doc = cc in
+    body_once h.is_body (subst (λ d. IsBody d ((top_of bytes).1 + 1) its at) same k.is_body)
 
 pub tokens_once : (bytes : List ℕ) (ts us : List Lined) (c d : Bool) → HasTokens bytes ts c → HasTokens bytes us d → (ts ≡ us) × (c ≡ d)
 tokens_once bytes ts us c d h k =
-    let same = same_body bytes h.doc k.doc h.body k.body h.line k.line h.after_title k.after_title h.is_body k.is_body in
+    let same = same_body bytes h.body k.body h.line k.line h.has_body k.has_body in
     tokens_only h.are_tokens (subst (λ b. AreTokens b h.line us d) (sym same.0) (subst (λ n. AreTokens k.body n us d) (sym same.1) k.are_tokens))
 
 text_of : (bytes : List ℕ) (f : Form) (s : grammar.Syntax) (h : HasForm bytes f s) → IsText h.tokens s
@@ -48,8 +50,8 @@ stop_last bytes ts us rest c d h k s b =
     let same = tokens_once bytes ts us c d h k in
     ap (λ r. line_at r (last_line bytes)) (stops_at_end IsText ts rest (subst (λ l. BeginsText IsText l) (sym same.0) b) s)
 
-no_tokens : (bytes : List ℕ) (ts : List Lined) (c : Bool) → ((doc body : List ℕ) (line : ℕ) → after_line bytes ≡ Some doc → ¬ IsBody doc 2 body line) → HasTokens bytes ts c → ⊥
-no_tokens bytes ts c none h = none h.doc h.body h.line h.after_title h.is_body
+no_tokens : (bytes : List ℕ) (ts : List Lined) (c : Bool) → ((body : List ℕ) (line : ℕ) → ¬ HasBody bytes body line) → HasTokens bytes ts c → ⊥
+no_tokens bytes ts c none h = none h.body h.line h.has_body
 
 broken_once : (bytes : List ℕ) (m n : ℕ) → IsBroken bytes m → IsBroken bytes n → m ≡ n
 broken_once bytes m n (no_block x) (no_block y) = refl
@@ -121,7 +123,7 @@ after_encoding bytes g (meaning h x) = let high = form_high x in inl (omega (ari
 pub first_encoding : (bytes : List ℕ) → ¬ IsUtf8 bytes → IsFirst (HasFault bytes) BadUtf8
 first_encoding bytes h = record { is = encoding h; first = after_encoding bytes }
 
--- of a text whose first line is no title
+-- of a text without a title
 after_title_line : (bytes : List ℕ) (g : Fault) → IsUtf8 bytes → HasFault bytes g → IsNoLater NotRiscv g
 after_title_line bytes g u (encoding x) = absurd (x u)
 after_title_line bytes g u (title x) = inr (refl, omega arith)

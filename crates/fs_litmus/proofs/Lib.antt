@@ -2,6 +2,7 @@ pub mod Bools
 pub mod Lists
 pub mod Trimming
 pub mod Utf8Pieces
+pub mod Tops
 pub mod Titles
 pub mod Naming
 pub mod Holders
@@ -42,6 +43,7 @@ pub mod PrintedCodeLabels
 pub mod PrintedCodeRows
 pub mod PrintedForm
 pub mod PrintedFormClasses
+pub mod PrintedOperands
 pub mod PrintedFormCondition
 pub mod PrintedFormEntries
 pub mod PrintedFormFits

@@ -1,8 +1,8 @@
--- First lines that are no title.
+-- Lines that are no title.
 use Rattle.std.proofs.Common.{◌≡◌, ℕ, List, [], ◌∷◌, ◌++◌, length, drop, true, false, refl, sym, ap, ◌∙◌, subst, append-nil, arith, codes, IsUtf8, Result, Ok, Err, MatchResult, is_ok}
 use Rattle.std.specs.List.{list_all}
 use Rattle.fs_litmus_tokens.specs.Bytes.{is_blank}
-use Rattle.fs_litmus.specs.Title.{line_of, begins_with_blank, IsTrimmed, HasTitle}
+use Rattle.fs_litmus.specs.Title.{line_of, begins_with_blank, IsTrimmed, IsTitled}
 use Rattle.fs_litmus.proofs.Bools.{both, both_true}
 
 all_blank : (before text after : List ℕ) → list_all is_blank (before ++ text ++ after) ≡ true → begins_with_blank text ≡ false → text ≡ []
@@ -29,7 +29,7 @@ same_rest : (a b : ℕ) (xs ys : List ℕ) → a ∷ xs ≡ b ∷ ys → xs ≡ 
 same_rest a b xs ys e = cc
 
 -- a line whose words are blanks is no title
-pub untitled : (bytes line words rest text name : List ℕ) (blank : ℕ) → line ≡ line_of bytes → words ≡ drop 5 line → words ≡ blank ∷ rest → length text ≡ 0 → IsTrimmed rest text → HasTitle bytes name → ⊥
+pub untitled : (bytes line words rest text name : List ℕ) (blank : ℕ) → line ≡ line_of bytes → words ≡ drop 5 line → words ≡ blank ∷ rest → length text ≡ 0 → IsTrimmed rest text → IsTitled bytes name → ⊥
 untitled bytes line words rest text name blank at cut split none trimmed h =
     let all : blank ∷ rest ≡ h.blank ∷ h.words = sym split ∙ cut ∙ ap (drop 5) (at ∙ h.line) ∙ past_word h.blank h.words in
     let same = same_rest blank h.blank rest h.words all in

@@ -23,7 +23,7 @@ use Rattle.fs_litmus_syntax.specs.Machine as machine
 use Rattle.fs_litmus_syntax.proofs.Residual.{tree}
 use Rattle.fs_litmus_syntax.proofs.ConditionReading.{Scan, Meets, answers}
 use Rattle.fs_litmus.specs.Title as title
-use Rattle.fs_litmus.specs.Title.{line_of, after_line, unindented, ends_in_blank, begins_with_blank, IsTrimmed, HasTitle, here, later}
+use Rattle.fs_litmus.specs.Title.{line_of, after_line, unindented, ends_in_blank, begins_with_blank, top_of, IsTrimmed, HasTitle, here, later}
 use Rattle.fs_litmus.specs.Reads.{HasTokens, HasForm}
 use Rattle.fs_litmus.proofs.Bools.{both}
 
@@ -123,8 +123,10 @@ text_once {other = other} {next = next} (later {bs = bs} {rest = rest} {line = l
 
 pub tokens_once : (bytes : List ℕ) (ts us : List Lined) (c d : Bool) → HasTokens bytes ts c → HasTokens bytes us d → ts ≡ us
 tokens_once bytes ts us c d h k =
-    let doc = some_same (after_line bytes) k.doc h.doc k.after_title h.after_title in
-    let same = text_once h.is_body (subst (λ z. title.IsBody z 2 k.body k.line) doc k.is_body) in
+    let its = h.has_body in
+    let other = k.has_body in
+    let doc = some_same (after_line (top_of bytes).0) other.doc its.doc other.after_title its.after_title in
+    let same = text_once its.is_body (subst (λ z. title.IsBody z ((top_of bytes).1 + 1) k.body k.line) doc other.is_body) in
     let there = subst (λ z. AreTokens z h.line us d) (sym same.bytes) (subst (λ z. AreTokens k.body z us d) (sym same.lines) k.are_tokens) in
     (tokens_only h.are_tokens there).0
 

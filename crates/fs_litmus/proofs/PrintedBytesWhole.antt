@@ -1,5 +1,5 @@
 -- The printed form of a test: its first line, its tokens, and that it is UTF-8.
-use Rattle.std.proofs.Common.{◌≡◌, ◌≢◌, ℕ, ◌≤◌, ◌^◌, List, [], ◌∷◌, ◌++◌, Option, Some, None, Bool, true, false, not, ◌||◌, refl, sym, ap, ◌∙◌, subst, append_assoc, append-nil, length, take, arith, eqb}
+use Rattle.std.proofs.Common.{◌≡◌, ◌≢◌, ℕ, ◌+◌, ◌≤◌, ◌^◌, List, [], ◌∷◌, ◌++◌, Option, Some, None, Bool, true, false, not, ◌||◌, refl, sym, ap, ◌∙◌, subst, append_assoc, append-nil, length, take, arith, eqb}
 use Rattle.std.proofs.lemmas.Bool.{and_parts}
 use Rattle.std.proofs.lemmas.Str.{IsUtf8-append, IsUtf8-from_ascii}
 use Rattle.std.proofs.lemmas.Grind.{flat_map-append}
@@ -15,7 +15,7 @@ use Rattle.fs_model.specs.Condition.{condition_of}
 use Rattle.fs_model.specs.Printed.{printed, ended, locations_text, starts_text, header, rows_text, column, quantifier_text, condition_text}
 use Rattle.fs_model.specs.declared.test.Test.{Test}
 use Rattle.fs_litmus.specs.Title as title
-use Rattle.fs_litmus.specs.Title.{after_line, is_within_line, ends_in_blank, begins_with_blank, IsTrimmed, HasTitle, IsBody, here}
+use Rattle.fs_litmus.specs.Title.{after_line, is_within_line, ends_in_blank, begins_with_blank, top_of, IsTrimmed, HasTitle, IsBody, HasBody, here}
 use Rattle.fs_litmus.specs.Reads.{HasTokens}
 use Rattle.fs_litmus.specs.inner.Written.{entry_toks, location_binding, start_bindings, bindings_of, row_toks, header_cells, column_toks, rows_toks, quantifier_toks, syntax_of, syntax_toks, text_toks}
 use Rattle.fs_litmus.proofs.PrintedBytes.{HasToks, Prints, opened, then, then_open, open_brace, close_brace, line_end, ended_line, tested_ascii, cons_ascii}
@@ -130,7 +130,11 @@ trimmed name h = record { before = []; after = []; split = sym (append-nil name)
 
 -- ---- the whole
 
--- the first line gives the test's name
+-- the first line is the title's
+top_printed : (u : Test) → top_of (printed u) ≡ (title_of u ++ 10 ∷ body_of u, 1)
+top_printed u = ap top_of (printed_parts u)
+
+-- it gives the test's name
 pub printed_title : (u : Test) → IsPrintable u → HasTitle (printed u) u.name
 printed_title u h =
     let name = plain_name u.name h.title in
@@ -138,7 +142,7 @@ printed_title u h =
       blank = 32;
       is_blank = refl;
       words = u.name;
-      line = ap title.line_of (printed_parts u) ∙ first_line (title_of u) (body_of u) name.one_line;
+      line = ap (λ x. title.line_of x.0) (top_printed u) ∙ first_line (title_of u) (body_of u) name.one_line;
       trimmed = trimmed u.name name;
       some = name.some;
     }
@@ -148,14 +152,14 @@ pub printed_tokens : (u : Test) → IsPrintable u → (ts : List Lined) × HasTo
 printed_tokens u h =
     let name = plain_name u.name h.title in
     let t = body_tokens u h 2 in
-    let has : HasTokens (printed u) t.0 true = record {
+    let second : IsBody (body_of u) 2 (body_of u) 2 = here refl in
+    let is_body = subst (λ x. IsBody (body_of u) (x.1 + 1) (body_of u) 2) (sym (top_printed u)) second in
+    let has_body : HasBody (printed u) (body_of u) 2 = record {
       doc = body_of u;
-      after_title = ap after_line (printed_parts u) ∙ line_after (title_of u) (body_of u) name.one_line;
-      body = body_of u;
-      line = 2;
-      is_body = here refl;
-      are_tokens = t.1;
+      after_title = ap (λ x. after_line x.0) (top_printed u) ∙ line_after (title_of u) (body_of u) name.one_line;
+      is_body = is_body;
     } in
+    let has : HasTokens (printed u) t.0 true = record { body = body_of u; line = 2; has_body = has_body; are_tokens = t.1 } in
     (t.0, has, t.2)
 
 -- a test whose name is UTF-8 prints as UTF-8

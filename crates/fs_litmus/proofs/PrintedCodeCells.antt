@@ -16,8 +16,10 @@ use Rattle.fs_instr.specs.Spelled.{Spells}
 use Rattle.fs_instr.specs.declared.instr.Instr.{Instr}
 use Rattle.fs_instr.specs.declared.instr.Instr.TheVariants as instr
 use Rattle.fs_instr.proofs.ReadsBack.{name_back, reads_back}
+use Rattle.fs_litmus_syntax.specs.Numbered.{is_numeric, is_label, named, operands}
 use Rattle.fs_litmus_syntax.specs.Cells.{Label, Instruction, is_colon, front_label, AreLabels, none, label, IsCell, labels, instruction, AreCells, empty, next}
 use Rattle.fs_litmus.specs.inner.Written.{label_toks}
+use Rattle.fs_litmus.proofs.PrintedOperands.{operands_stay}
 
 -- L and a position
 abbrev pub label_name : ℕ → List ℕ
@@ -31,6 +33,9 @@ and_false false = refl
 
 pub label_named : (t : ℕ) → t < 2 ^ 32 → is_name (class_of (label_name t)) ≡ true
 label_named t h = name_back t h
+
+label_is : (t : ℕ) → t < 2 ^ 32 → is_label (class_of (label_name t)) ≡ true
+label_is t h = ap (λ b. b || is_numeric (class_of (label_name t))) (label_named t h)
 
 -- ---- a token at the front
 
@@ -75,7 +80,7 @@ no_label c w line ((t, k) ∷ rest) [] e h = absurd (cc)
 no_label c w line ((t, k) ∷ rest) (u ∷ more) e h =
     let first : t ≡ u = cc e in
     let plain : is_colon (t, k) ≡ false = subst (λ x. is_colon (x, k) ≡ false) (sym first) (h k) in
-    ap (λ b. cond (is_name c && b) (Some (w, line)) None) plain ∙ ap (λ b. cond b (Some (w, line)) None) (and_false (is_name c))
+    ap (λ b. cond (is_label c && b) (Some (w, line)) None) plain ∙ ap (λ b. cond b (Some (w, line)) None) (and_false (is_label c))
 
 -- ---- cells
 
@@ -85,21 +90,21 @@ record EndsWithInstr (ts : List Lined) (i : Instr) : Type 0 where
   t : Tok
   rest : List Lined
   no_more : AreLabels ts [] ((t, line) ∷ rest)
-  spells : Spells (t ∷ without_lines rest) (targeted 0 i) (label_of i)
+  spells : Spells (t ∷ operands rest) (targeted 0 i) (label_of i)
 
-ends_from : (ts : List Lined) (w : List ℕ) (more : List Tok) (i : Instr) → Spells (word w ∷ more) (targeted 0 i) (label_of i) → NoColon more → without_lines ts ≡ word w ∷ more → EndsWithInstr ts i
-ends_from ts w more i s h e =
+ends_from : (ts : List Lined) (w : List ℕ) (more : List Tok) (i : Instr) → Spells (word w ∷ more) (targeted 0 i) (label_of i) → NoColon more → map named more ≡ more → without_lines ts ≡ word w ∷ more → EndsWithInstr ts i
+ends_from ts w more i s h k e =
     let f = front ts (word w) more e in
     record {
       line = f.line;
       t = word w;
       rest = f.rest;
       no_more = subst (λ l. AreLabels l [] ((word w, f.line) ∷ f.rest)) (sym f.same) (none (no_label (class_of w) w f.line f.rest more f.left h));
-      spells = subst (λ l. Spells (word w ∷ l) (targeted 0 i) (label_of i)) (sym f.left) s;
+      spells = subst (λ l. Spells (word w ∷ l) (targeted 0 i) (label_of i)) (sym (ap (map named) f.left ∙ k)) s;
     }
 
 ends_with : (ts : List Lined) (i : Instr) → IsOfTable i → without_lines ts ≡ instr_tokens i → EndsWithInstr ts i
-ends_with ts i h e = ends_from ts (name_text (op_of_instr i)) (parts_tokens (parts_of (op_of_instr i)) (operands_of i)) i (reads_back i h) (operands_no_colon i) e
+ends_with ts i h e = ends_from ts (name_text (op_of_instr i)) (parts_tokens (parts_of (op_of_instr i)) (operands_of i)) i (reads_back i h) (operands_no_colon i) (operands_stay i h (parts_of (op_of_instr i))) e
 
 -- an instruction alone
 pub record IsBareCell (ts : List Lined) (i : Instr) : Type 0 where
@@ -121,7 +126,7 @@ after_label ts at more small e =
     let f = front ts (word (label_name at)) (Sign Colon ∷ more) e in
     let g = front f.rest (Sign Colon) more f.left in
     let all : ts ≡ (word (label_name at), f.line) ∷ (Sign Colon, g.line) ∷ g.rest = f.same ∙ ap (λ l. (word (label_name at), f.line) ∷ l) g.same in
-    let named : front_label ((word (label_name at), f.line) ∷ (Sign Colon, g.line) ∷ g.rest) ≡ Some (label_name at, f.line) = rw (label_named at small) refl in
+    let named : front_label ((word (label_name at), f.line) ∷ (Sign Colon, g.line) ∷ g.rest) ≡ Some (label_name at, f.line) = rw (label_is at small) refl in
     record { line = f.line; rest = g.rest; is_label = ap front_label all ∙ named; past = ap (drop 2) all; left = g.left }
 
 -- a label and an instruction

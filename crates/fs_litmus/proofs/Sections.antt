@@ -1,5 +1,5 @@
 -- The sections and the condition of a text, read one after the other.
-use Rattle.std.proofs.Common.{◌≡◌, ◌≢◌, ℕ, ◌≤◌, List, [], ◌∷◌, Bool, true, false, sym, ap, subst, append-nil, arith, IsUtf8, Some, Result, Ok, Err, IfOk, IfErr}
+use Rattle.std.proofs.Common.{◌≡◌, ◌≢◌, ℕ, ◌≤◌, List, [], ◌∷◌, Bool, true, false, sym, ap, subst, append-nil, arith, IsUtf8, Result, Ok, Err, IfOk, IfErr}
 use Rattle.fs_kinds.specs.FaultLine.{number}
 use Rattle.fs_kinds.specs.declared.fault.Fault.{Fault}
 use Rattle.fs_kinds.specs.declared.fault.Fault.TheVariants as fault
@@ -17,7 +17,7 @@ use Rattle.fs_litmus_syntax.specs.Answer.{Means, StopsAt}
 use Rattle.fs_litmus_syntax.specs.declared.condition.Condition as conditions
 use Rattle.fs_model.specs.declared.test.Test.{Test}
 use Rattle.fs_kinds.specs.FaultOrder.{IsFirst}
-use Rattle.fs_litmus.specs.Title.{after_line, last_line, HasTitle, IsBody}
+use Rattle.fs_litmus.specs.Title.{last_line, HasTitle, HasBody}
 use Rattle.fs_litmus.specs.Reads.{HasTokens, HasForm}
 use Rattle.fs_litmus.specs.Faults.{IsText, IsBroken, line_at, token, comment, IsFormFault, HasFault}
 use Rattle.fs_litmus.specs.inner.Sections.{AreSections, IsTextStop, fault_of}
@@ -110,9 +110,9 @@ meaning_clean bytes name ts f c e u t h s k =
 pub titled : (bytes content name : List ℕ) → content ≡ bytes → HasTitle content name → HasTitle bytes name
 titled bytes content name e h = subst (λ b. HasTitle b name) e h
 
-pub tokens_there : (bytes text : List ℕ) (line : ℕ) (items lent : List Token) (closed : Bool) → (doc : List ℕ) × (after_line bytes ≡ Some doc) × IsBody doc 2 text line → lent ≡ items → AreTokens text line (views items) closed → HasTokens bytes (views lent) closed
+pub tokens_there : (bytes text : List ℕ) (line : ℕ) (items lent : List Token) (closed : Bool) → HasBody bytes text line → lent ≡ items → AreTokens text line (views items) closed → HasTokens bytes (views lent) closed
 tokens_there bytes text line items lent closed b e h =
-    record { doc = b.0; after_title = b.1; body = text; line = line; is_body = b.2; are_tokens = subst (λ ts. AreTokens text line (views ts) closed) (sym e) h }
+    record { body = text; line = line; has_body = b; are_tokens = subst (λ ts. AreTokens text line (views ts) closed) (sym e) h }
 
 pub test_first : (bytes name : List ℕ) (ts : List Lined) (f : Form) (c : conditions.Condition) (r : Result Test Fault) → IsUtf8 bytes → HasTitle bytes name → HasTokens bytes ts true → AreSections ts f c → IfErr r (λ e. e ≢ fault.Memory → (s : Syntax) → Means c s → IsFirst (IsFormFault f s) e) → IfErr r (λ e. e ≢ fault.Memory → IsFirst (HasFault bytes) e)
 test_first bytes name ts f c (Ok t) u h k s first = tt

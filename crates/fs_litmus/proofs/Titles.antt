@@ -7,11 +7,12 @@ use Rattle.std.proofs.lemmas.List.{take-append-drop}
 use Rattle.std.proofs.lemmas.List.Folds.{list_any-append}
 use Rattle.fs_litmus_tokens.specs.Bytes.{is_blank}
 use Rattle.fs_model.specs.Test.{is_title, is_visible}
-use Rattle.fs_litmus.specs.Title.{is_within_line, line_of, ends_in_blank, begins_with_blank, IsTrimmed, HasTitle}
+use Rattle.fs_litmus.specs.Title.{is_within_line, line_of, ends_in_blank, begins_with_blank, top_of, IsTrimmed, HasTitle}
 use Rattle.fs_litmus.proofs.Utf8Pieces.{utf8_before, utf8_tail}
+use Rattle.fs_litmus.proofs.Tops.{top_below}
 use Rattle.fs_litmus.proofs.Bools.{both, neither}
 
--- ---- the first line
+-- ---- lines
 
 abbrev is_feed : ℕ → Bool
 is_feed c = c == 10
@@ -81,7 +82,7 @@ five_past a b c d e rest la lb lc ld le u =
 -- the name is text
 pub title_utf8 : (bytes name : List ℕ) → IsUtf8 bytes → HasTitle bytes name → IsUtf8 name
 title_utf8 bytes name u h =
-    let line = subst IsUtf8 h.line (line_utf8 bytes u) in
+    let line = subst IsUtf8 h.line (line_utf8 (top_of bytes).0 ((top_below bytes).utf8 u)) in
     let rest = five_past 82 73 83 67 86 (h.blank ∷ h.words) (omega arith) (omega arith) (omega arith) (omega arith) (omega arith) line in
     trimmed_utf8 h.words name h.trimmed (utf8_tail h.words h.blank (blank_low h.blank h.is_blank) rest)
 
@@ -117,7 +118,7 @@ later_feed b bs h = (neither (b == 10) (list_any is_feed bs) h).1
 
 pub title_is : (bytes name : List ℕ) → HasTitle bytes name → IsTrue (is_title name)
 title_is bytes name h =
-    let line = subst (λ l. list_any is_feed l ≡ false) h.line (no_feed bytes) in
+    let line = subst (λ l. list_any is_feed l ≡ false) h.line (no_feed (top_of bytes).0) in
     let words = later_feed h.blank h.words (part_feed (82 ∷ 73 ∷ 83 ∷ 67 ∷ 86 ∷ []) (h.blank ∷ h.words) line).1 in
     let text = subst (λ l. list_any is_feed l ≡ false) h.trimmed.split words in
     let none = (part_feed h.trimmed.before name (part_feed (h.trimmed.before ++ name) h.trimmed.after text).0).1 in

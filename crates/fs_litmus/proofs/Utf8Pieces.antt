@@ -1,6 +1,7 @@
 -- Texts in UTF-8 that are cut at bytes of ASCII.
 use Rattle.std.proofs.Common.{◌≡◌, ℕ, ◌+◌, ◌<◌, List, [], ◌∷◌, ◌++◌, length, take, get_or, refl, sym, ap, subst, arith}
 use Rattle.std.specs.Str.{IsUtf8}
+use Rattle.std.proofs.Math.Seq.{drop-append-add}
 use Rattle.std.proofs.lemmas.Str.{IsUtf8-take, IsUtf8-drop, IsCharBoundary-before_ascii, IsCharBoundary-after_ascii}
 
 at_front : (front rest : List ℕ) (x : ℕ) → get_or (front ++ x ∷ rest) (length front) 0 ≡ x
@@ -21,8 +22,12 @@ utf8_before front rest x low h =
     let here : get_or (front ++ x ∷ rest) (length front) 0 < 128 = subst (λ b. b < 128) (sym (at_front front rest x)) low in
     subst IsUtf8 (front_taken front (x ∷ rest)) (IsUtf8-take (front ++ x ∷ rest) (length front) h (IsCharBoundary-before_ascii (front ++ x ∷ rest) (length front) (within front rest x) here))
 
+-- what comes after a byte of ASCII
+pub utf8_after : (front rest : List ℕ) (x : ℕ) → x < 128 → IsUtf8 (front ++ x ∷ rest) → IsUtf8 rest
+utf8_after front rest x low h =
+    let here : get_or (front ++ x ∷ rest) (length front) 0 < 128 = subst (λ b. b < 128) (sym (at_front front rest x)) low in
+    subst IsUtf8 (drop-append-add front (x ∷ rest) 1) (IsUtf8-drop (front ++ x ∷ rest) (length front + 1) h (IsCharBoundary-after_ascii (front ++ x ∷ rest) (length front) h (within front rest x) here))
+
 -- what comes after a first byte of ASCII
 pub utf8_tail : (rest : List ℕ) (x : ℕ) → x < 128 → IsUtf8 (x ∷ rest) → IsUtf8 rest
-utf8_tail rest x low h =
-    let some : 0 < length (x ∷ rest) = omega arith in
-    IsUtf8-drop (x ∷ rest) (0 + 1) h (IsCharBoundary-after_ascii (x ∷ rest) 0 h some low)
+utf8_tail rest x low h = utf8_after [] rest x low h

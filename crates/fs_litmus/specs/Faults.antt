@@ -19,7 +19,7 @@ use Rattle.fs_instr.specs.Instructions.{is_memory}
 use Rattle.fs_instr.specs.declared.instr.Instr.{Instr}
 use Rattle.fs_litmus_syntax.specs.Codes.{AreCodes, IsFault}
 use Rattle.fs_kinds.specs.FaultOrder.{IsFirst}
-use Rattle.fs_litmus.specs.Title.{after_line, last_line, HasTitle, IsBody}
+use Rattle.fs_litmus.specs.Title.{last_line, HasTitle, HasBody}
 use Rattle.fs_litmus.specs.Locations.{Names}
 use Rattle.fs_litmus.specs.Settings.{holder_of, setting_of, is_x0, are_there}
 use Rattle.fs_litmus.specs.Reads.{HasTokens, HasForm, names_in}
@@ -27,7 +27,7 @@ use Rattle.fs_litmus.specs.declared.settings.Holder.{Holder}
 
 -- ---- the form of the text
 
--- a text below its first line: the sections, and then the condition
+-- a text below the title's line: the sections, and then the condition
 abbrev pub IsText : List Lined → grammar.Syntax → Type 0
 IsText = Then IsForm (λ form. IsCondition)
 
@@ -39,7 +39,7 @@ line_at (t ∷ ts) last = t.1
 -- the text isn't of the form, from this line on
 pub data IsBroken (bytes : List ℕ) : ℕ → Type 0 where
   -- no block of initial values begins: the last line
-  no_block : ((doc body : List ℕ) (line : ℕ) → after_line bytes ≡ Some doc → ¬ IsBody doc 2 body line) → IsBroken bytes (last_line bytes)
+  no_block : ((body : List ℕ) (line : ℕ) → ¬ HasBody bytes body line) → IsBroken bytes (last_line bytes)
   -- a token with which the tokens so far begin no text: its line; or they end too soon: the last line
   token : {tokens rest : List Lined} {closed : Bool} → HasTokens bytes tokens closed → StopsText IsText tokens rest → IsBroken bytes (line_at rest (last_line bytes))
   -- a comment isn't closed, and no token before it breaks the form: the last line

@@ -17,24 +17,22 @@ use Rattle.fs_model.specs.declared.outcome.Outcome.{Outcome}
 use Rattle.fs_model.specs.declared.test.Test.{Test}
 use Rattle.fs_model.specs.declared.test.Quantifier.{Quantifier}
 use Rattle.fs_model.specs.declared.test.Quantifier.TheVariants.{Exists, NotExists, Forall}
-use Rattle.fs_litmus.specs.Title.{after_line, HasTitle, IsBody}
+use Rattle.fs_litmus.specs.Title.{HasTitle, HasBody}
 use Rattle.fs_litmus.specs.Locations.{Names, declared}
 use Rattle.fs_litmus.specs.Settings.{entry_bindings, settings_after}
 use Rattle.fs_litmus.specs.Starts.{starts_of, AreLocations}
 use Rattle.fs_litmus.specs.Atoms.{condition_in}
 use Rattle.fs_litmus.specs.declared.settings.Setting.{Setting}
 
--- Below the first line there is doc text, up to the block of initial values, and from there these are the tokens;
+-- Below the title's line there is doc text, up to the block of initial values, and from there these are the tokens;
 -- closed says that no comment is open at the end.
 pub record HasTokens (bytes : List ℕ) (tokens : List Lined) (closed : Bool) : Type 0 where
-  pub doc : List ℕ
-  pub after_title : after_line bytes ≡ Some doc
   pub body : List ℕ
   pub line : ℕ
-  pub is_body : IsBody doc 2 body line
+  pub has_body : HasBody bytes body line
   pub are_tokens : AreTokens body line tokens closed
 
--- The text below its first line has this form: its tokens are the sections and then the condition, and no comment is
+-- The text below the title's line has this form: its tokens are the sections and then the condition, and no comment is
 -- left open.
 pub record HasForm (bytes : List ℕ) (form : Form) (s : Syntax) : Type 0 where
   pub tokens : List Lined

@@ -1,6 +1,6 @@
--- What stands before the tokens of a test file (herd7's format of litmus tests): a first line with the architecture and
--- the test's name, and lines of doc text up to the block of initial values.
-use Rattle.std.specs.Prelude.{◌≡◌, ◌≢◌, ℕ, ◌+◌, ◌-◌, length, count_by, List, [], ◌∷◌, ◌++◌, Bool, true, false, Option, Some, None, ◌==◌, codes, drop, take, not, if◌then◌else◌}
+-- What stands before the tokens of a test file (herd7's format of litmus tests): lines of blanks and comments, a line
+-- with the architecture and the test's name, and lines of doc text up to the block of initial values.
+use Rattle.std.specs.Prelude.{◌≡◌, ◌≢◌, ℕ, ◌+◌, ◌-◌, length, count_by, List, [], ◌∷◌, ◌++◌, Bool, true, false, Option, Some, None, ◌==◌, ◌&&◌, codes, drop, take, not, if◌then◌else◌}
 use Rattle.std.specs.List.{prefix_len, list_all}
 use Rattle.fs_litmus_tokens.specs.Bytes.{is_blank, begins}
 
@@ -33,6 +33,23 @@ abbrev pub begins_with_blank : List ℕ → Bool
 begins_with_blank [] = false
 begins_with_blank (b ∷ bs) = is_blank b
 
+-- What stands below the lines at the top that have nothing but blanks and comments, and the number of its first line.
+-- The bytes stand in this line, so many comments are open before them, and the first is the second of a (* or *), or
+-- isn't; top is the last line that began outside comments.
+abbrev pub top_from : ℕ → Bool → List ℕ → ℕ → List ℕ × ℕ → List ℕ × ℕ
+top_from depth second [] line top = top
+top_from depth true (b ∷ bs) line top = top_from depth false bs line top
+top_from depth false (b ∷ bs) line top =
+    if b == 10 then top_from depth false bs (line + 1) (if depth == 0 then (bs, line + 1) else top)
+    else (if b == 40 && begins 42 bs then top_from (depth + 1) true bs line top
+    else (if depth == 0 then (if is_blank b then top_from depth false bs line top else top)
+    else (if b == 42 && begins 41 bs then top_from (depth - 1) true bs line top
+    else top_from depth false bs line top)))
+
+-- the title's line with all below it, and its number
+abbrev pub top_of : List ℕ → List ℕ × ℕ
+top_of bytes = top_from 0 false bytes 1 (bytes, 1)
+
 -- the text is what stands between blanks, and neither begins nor ends with one
 pub record IsTrimmed (line text : List ℕ) : Type 0 where
   pub before : List ℕ
@@ -44,16 +61,26 @@ pub record IsTrimmed (line text : List ℕ) : Type 0 where
   pub last : ends_in_blank text ≡ false
 
 -- the first line is RISCV, a blank and a name: the rest of the line, blanks cut off at both ends, not empty
-pub record HasTitle (bytes name : List ℕ) : Type 0 where
+pub record IsTitled (text name : List ℕ) : Type 0 where
   pub blank : ℕ
   pub is_blank : is_blank blank ≡ true
   pub words : List ℕ
-  pub line : line_of bytes ≡ codes "RISCV" ++ blank ∷ words
+  pub line : line_of text ≡ codes "RISCV" ++ blank ∷ words
   pub trimmed : IsTrimmed words name
   pub some : name ≢ []
+
+-- the file has this title, below lines of blanks and comments alone
+abbrev pub HasTitle : List ℕ → List ℕ → Type 0
+HasTitle bytes name = IsTitled (top_of bytes).0 name
 
 -- The text from this line on is dropped up to the first line whose first character past blanks is {. The body begins
 -- with it.
 pub data IsBody : List ℕ → ℕ → List ℕ → ℕ → Type 0 where
   here : {bs : List ℕ} {line : ℕ} → begins 123 (unindented bs) ≡ true → IsBody bs line (unindented bs) line
   later : {bs rest body : List ℕ} {line at : ℕ} → begins 123 (unindented bs) ≡ false → after_line bs ≡ Some rest → IsBody rest (line + 1) body at → IsBody bs line body at
+
+-- the body of the file, below the title's line, and the number of the line that it begins in
+pub record HasBody (bytes body : List ℕ) (line : ℕ) : Type 0 where
+  pub doc : List ℕ
+  pub after_title : after_line (top_of bytes).0 ≡ Some doc
+  pub is_body : IsBody doc ((top_of bytes).1 + 1) body line

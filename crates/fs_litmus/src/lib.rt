@@ -22,3 +22,4 @@ pub use fs_model::{
 pub use lines::read_lines;
 pub use reader::read_test;
 pub use round_trip::{fence, reads_back};
+pub use title::{Body, skip_title, skip_top};

@@ -49,10 +49,10 @@ pub(crate) fn read_sections<'b, 'a>(
 
 /// The litmus test that the bytes of a file in herd7's format for RISC-V read as.
 ///
-/// The faults, of which the one of least number is given, and of that number the least line: F1 not UTF-8; F2 the first
-/// line; F3 the form of the text, or of a cell; F4 an unknown mnemonic; F5 `lr.w.rl` or `sc.w.aq`; F6 a label; F7 an
-/// initial value; F8 an atom of the condition; F9 a limit, the first of harts, instructions, accesses, locations and
-/// depth. F19 where memory was refused. Linear in the bytes.
+/// The faults, of which the one of least number is given, and of that number the least line: F1 not UTF-8; F2 the
+/// title's line; F3 the form of the text, or of a cell; F4 an unknown mnemonic; F5 `lr.w.rl` or `sc.w.aq`; F6 a label;
+/// F7 an initial value; F8 an atom of the condition; F9 a limit, the first of harts, instructions, accesses, locations
+/// and depth. F19 where memory was refused. Linear in the bytes.
 pub fn read_test(alloc: Global, bytes: &[u8]) -> Result<Test, Fault>
     // The bytes read as this test.
     ensures ok { IfOk result (Reads bytes.now) }

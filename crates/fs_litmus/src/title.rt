@@ -1,12 +1,12 @@
-//! What stands before the tokens of a test file: the first line, and doc text.
+//! What stands before the tokens of a test file: comments, the title's line, and doc text.
 
-ghost use Rattle.std.specs.Prelude.{◌≡◌, ℕ, List, ◌+◌, ◌<◌, ◌≤◌, ◌^◌, ◌++◌, length, Some, IfSome, IsNone, option_map};
+ghost use Rattle.std.specs.Prelude.{◌≡◌, ℕ, List, ◌+◌, ◌<◌, ◌≤◌, ◌^◌, ◌++◌, length, IfSome, IsNone, option_map};
 ghost use Rattle.std.specs.List.{prefix_len, list_all};
 ghost use Rattle.fs_litmus_tokens.specs.Bytes.{is_blank, begins};
 ghost use Rattle.fs_litmus.specs.Title.{last_line, is_within_line, line_of, after_line, unindented, ends_in_blank};
-ghost use Rattle.fs_litmus.specs.Title.{begins_with_blank, IsTrimmed, HasTitle, IsBody};
+ghost use Rattle.fs_litmus.specs.Title.{begins_with_blank, top_of, IsTrimmed, IsTitled, HasTitle, IsBody, HasBody};
 
-/// The block of initial values and all that comes after it, and the number of the line that it begins in.
+/// A part of a file up to its end, and the number of the line that it begins in.
 #[derive(Clone, Copy)]
 pub struct Body<'a> {
     pub text: &'a [u8],
@@ -89,21 +89,58 @@ fn trimmed(line: &[u8]) -> &[u8]
     text
 }
 
-fn begins_with_brace(bytes: &[u8]) -> bool
-    ensures { result ≡ begins 123 bytes.now }
+fn begins(c: u8, bytes: &[u8]) -> bool
+    ensures { result ≡ begins c bytes.now }
 {
     match bytes.first() {
-        Some(byte) => *byte == b'{',
+        Some(byte) => *byte == c,
         None => false,
     }
 }
 
-/// The test's name, as bytes.
-fn title_of(bytes: &[u8]) -> Option<&[u8]>
-    ensures named { IfSome result (λ name. HasTitle bytes.now name.now) }
-    ensures absent { IsNone result → (name : List ℕ) → ¬ HasTitle bytes.now name }
+/// The title's line and all below it: what stands below the lines at the top that have nothing but blanks and comments.
+/// A comment may go over several lines. Linear in the bytes.
+pub fn skip_top(bytes: &[u8]) -> Body<'_>
+    ensures value { (result.text.now, result.line) ≡ top_of bytes.now }
+    ensures room { result.line + length result.text.now ≤ length bytes.now + 1 }
 {
-    let words = line_of(bytes).strip_prefix(b"RISCV")?;
+    let mut text = bytes;
+    let mut at = 1;
+    let mut rest = bytes;
+    let mut line = 1;
+    let mut depth: usize = 0;
+    let mut is_second = false;
+    while let Some((first, after)) = rest.split_first() {
+        rest = after;
+        if is_second {
+            is_second = false;
+        } else if *first == b'\n' {
+            line += 1;
+            if depth == 0 {
+                text = after;
+                at = line;
+            }
+        } else if *first == b'(' && begins(b'*', after) {
+            depth += 1;
+            is_second = true;
+        } else if depth == 0 {
+            if !is_blank(*first) {
+                return Body { text, line: at };
+            }
+        } else if *first == b'*' && begins(b')', after) {
+            depth -= 1;
+            is_second = true;
+        }
+    }
+    Body { text, line: at }
+}
+
+/// The name that the first line gives, as bytes.
+fn name_of(text: &[u8]) -> Option<&[u8]>
+    ensures named { IfSome result (λ name. IsTitled text.now name.now) }
+    ensures absent { IsNone result → (name : List ℕ) → ¬ IsTitled text.now name }
+{
+    let words = line_of(text).strip_prefix(b"RISCV")?;
     let (blank, rest) = words.split_first()?;
     if !is_blank(*blank) {
         return None;
@@ -112,8 +149,16 @@ fn title_of(bytes: &[u8]) -> Option<&[u8]>
     if name.is_empty() { None } else { Some(name) }
 }
 
-/// The test's name: what follows `RISCV` and a blank in the first line, blanks cut off at both ends; nothing where the
-/// first line is no such line.
+/// The test's name, as bytes.
+fn title_of(bytes: &[u8]) -> Option<&[u8]>
+    ensures named { IfSome result (λ name. HasTitle bytes.now name.now) }
+    ensures absent { IsNone result → (name : List ℕ) → ¬ HasTitle bytes.now name }
+{
+    name_of(skip_top(bytes).text)
+}
+
+/// The test's name: what follows `RISCV` and a blank in the first line that has more than blanks and comments, blanks
+/// cut off at both ends; nothing where that is no such line.
 pub fn read_title(text: &str) -> Option<&str>
     ensures named { IfSome result (λ name. HasTitle text.now name.now) }
     ensures absent { IsNone result → (name : List ℕ) → ¬ HasTitle text.now name }
@@ -134,7 +179,7 @@ pub fn find_body(bytes: &[u8], line: usize) -> Option<Body<'_>>
     let mut at = line;
     loop {
         let text = unindented(rest);
-        if begins_with_brace(text) {
+        if begins(b'{', text) {
             return Some(Body { text, line: at });
         }
         rest = after_line(rest)?;
@@ -142,16 +187,16 @@ pub fn find_body(bytes: &[u8], line: usize) -> Option<Body<'_>>
     }
 }
 
-/// The block of initial values and what comes after it, in a text whose first line is the title; nothing where no later
-/// line begins with `{` past its blanks.
+/// The block of initial values and what comes after it, and its line; nothing where no line below the title's begins
+/// with `{` past its blanks. Linear in the bytes.
 pub fn skip_title(bytes: &[u8]) -> Option<Body<'_>>
-    ensures value { IfSome result (λ b. (doc : List ℕ) × (after_line bytes.now ≡ Some doc)
-        × IsBody doc 2 b.text.now b.line) }
-    ensures absent { IsNone result → (doc body : List ℕ) → (at : ℕ) → after_line bytes.now ≡ Some doc
-        → ¬ IsBody doc 2 body at }
+    ensures value { IfSome result (λ b. HasBody bytes.now b.text.now b.line) }
+    ensures absent { IsNone result → (body : List ℕ) → (line : ℕ) → ¬ HasBody bytes.now body line }
     ensures room { IfSome result (λ b. b.line + length b.text.now < 2 ^ 64) }
 {
-    find_body(after_line(bytes)?, 2)
+    let top = skip_top(bytes);
+    let below = after_line(top.text)?;
+    find_body(below, top.line + 1)
 }
 
 /// The number of the last line; an LF at the end of the text begins none.

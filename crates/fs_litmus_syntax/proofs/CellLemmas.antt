@@ -1,15 +1,15 @@
 -- What a cell says.
 use Rattle.std.proofs.Common.{◌≡◌, ℕ, ◌+◌, ◌-◌, ◌≤◌, List, [], ◌∷◌, ◌++◌, length, drop, Option, Some, None, Err, refl, sym, ap, ◌∙◌, subst, append_assoc, append-nil, length-drop, arith}
 use Rattle.std.proofs.lemmas.List.{drop-map, drop-drop}
-use Rattle.fs_litmus_tokens.specs.Tokens.{Tok, Lined, without_lines, view, views, kind_of}
+use Rattle.fs_litmus_tokens.specs.Tokens.{Tok, Lined, view, views, kind_of}
 use Rattle.fs_litmus_tokens.specs.declared.token.Token.{Token}
-use Rattle.fs_instr.specs.Operands.{toks}
 use Rattle.fs_instr.specs.Spelled.{Spells, IsUnknown, IsUnsupported, Answers}
 use Rattle.fs_instr.proofs.Spelling.{spelled_read, unknown_read, unsupported_read}
 use Rattle.fs_instr.specs.declared.instr.Instr.{Instr}
 use Rattle.fs_instr.specs.declared.reading.Refused.TheVariants.{Form, Name, Suffix}
 use Rattle.fs_kinds.specs.declared.fault.Fault.{Fault}
 use Rattle.fs_kinds.specs.declared.fault.Fault.TheVariants.{Syntax, UnknownInstr, BadAnnotation}
+use Rattle.fs_litmus_syntax.specs.Numbered.{operands}
 use Rattle.fs_litmus_syntax.specs.Cells.{Item, Label, Instruction, front_label, AreLabels, none, label, IsCell, labels, instruction, IsMalformed, IsCellFault, syntax, unknown, annotation, AddsLabels, AddsItems}
 
 pub record SameLabels (xs ys : List Item) (r s : List Lined) : Type 0 where
@@ -46,8 +46,8 @@ cell_only (instruction {rest = r} {xs = xs} {ys = ys} {t = t} {line = l} {i = i}
     let same_t : t ≡ u = ap (λ x. x.0) front in
     let same_l : l ≡ k = ap (λ x. x.1) front in
     let same_r : r ≡ q = cc rest in
-    let z2 = subst (λ x. Spells (x ∷ without_lines q) j v) (sym same_t) z in
-    let z3 = subst (λ x. Spells (t ∷ without_lines x) j v) (sym same_r) z2 in
+    let z2 = subst (λ x. Spells (x ∷ operands q) j v) (sym same_t) z in
+    let z3 = subst (λ x. Spells (t ∷ operands x) j v) (sym same_r) z2 in
     let same = spells_only s z3 in
     cc (e, f, p.items, same_l, same.0, same.1)
 
@@ -72,12 +72,12 @@ known_or_not h k =
     cc (p, q)
 
 -- a fact on what comes after the labels of a cell, which is one list
-along : {t u : Tok} {l k : ℕ} {r q : List Lined} (P : List Tok → Type 0) → ◌≡◌ {A = List Lined} ((t, l) ∷ r) ((u, k) ∷ q) → P (u ∷ without_lines q) → P (t ∷ without_lines r)
+along : {t u : Tok} {l k : ℕ} {r q : List Lined} (P : List Tok → Type 0) → ◌≡◌ {A = List Lined} ((t, l) ∷ r) ((u, k) ∷ q) → P (u ∷ operands q) → P (t ∷ operands r)
 along {t = t} {u = u} {l = l} {k = k} {r = r} {q = q} P e h =
     let front : ◌≡◌ {A = Lined} (u, k) (t, l) = cc e in
     let same_t : u ≡ t = ap (λ x. x.0) front in
     let same_r : q ≡ r = cc e in
-    subst (λ x. P (t ∷ without_lines x)) same_r (subst (λ x. P (x ∷ without_lines q)) same_t h)
+    subst (λ x. P (t ∷ operands x)) same_r (subst (λ x. P (x ∷ operands q)) same_t h)
 
 line_along : {t u : Tok} {l k : ℕ} {r q : List Lined} → ◌≡◌ {A = List Lined} ((t, l) ∷ r) ((u, k) ∷ q) → l ≡ k
 line_along {t = t} {u = u} {l = l} {k = k} e =
@@ -105,10 +105,6 @@ fault_only (annotation h m) (unknown k n) = absurd (known_or_not n (along IsUnsu
 fault_only (annotation h m) (annotation k n) = ap BadAnnotation (line_along (labels_only k h).rest)
 
 -- ---- what the reader adds to a hart's listing
-
-toks_are : (ts : List Token) → toks ts ≡ without_lines (views ts)
-toks_are [] = refl
-toks_are (t ∷ ts) = ap (λ l. kind_of t.kind ∷ l) (toks_are ts)
 
 -- one label more
 pub label_more : (cell s : List Token) (taken : ℕ) (added : List Item) (name : List ℕ) (line : ℕ) → s ≡ drop taken cell → Some (name, line) ≡ front_label (views s) → ((xs : List Item) (rest : List Lined) → AreLabels (views (drop taken cell)) xs rest → AreLabels (views cell) (added ++ xs) rest) → (xs : List Item) (rest : List Lined) → AreLabels (views (drop (taken + 2) cell)) xs rest → AreLabels (views cell) ((added ++ Label name line ∷ []) ++ xs) rest
@@ -141,14 +137,13 @@ at_rest cell rest old new taken e h = record { added = h.added; are = subst (λ 
 pub labels_alone : (cell rest : List Token) (old new : List Item) → AtRest cell rest old new → length rest ≡ 0 → AddsItems (views cell) old new
 labels_alone cell rest old new h e = record { added = h.added; is = labels (subst (λ l. AreLabels (views cell) h.added (views l)) (empty_is rest e) h.are); new_is = h.new_is }
 
-pub with_instruction : (cell rest : List Token) (old mid new : List Item) (m : Token) (after : List Token) (i : Instr) (target : Option (List ℕ)) → AtRest cell rest old mid → rest ≡ m ∷ after → Spells (toks rest) i target → new ≡ mid ++ Instruction i target m.line ∷ [] → AddsItems (views cell) old new
+pub with_instruction : (cell rest : List Token) (old mid new : List Item) (m : Token) (after : List Token) (i : Instr) (target : Option (List ℕ)) → AtRest cell rest old mid → rest ≡ m ∷ after → Spells (kind_of m.kind ∷ operands (views after)) i target → new ≡ mid ++ Instruction i target m.line ∷ [] → AddsItems (views cell) old new
 with_instruction cell rest old mid new m after i target h e s n =
     let last : Item = Instruction i target m.line in
     let here : AreLabels (views cell) h.added (views (m ∷ after)) = subst (λ l. AreLabels (views cell) h.added (views l)) e h.are in
-    let spelled : Spells (without_lines (views (m ∷ after))) i target = subst (λ l. Spells (without_lines (views l)) i target) e (subst (λ l. Spells l i target) (toks_are rest) s) in
     record {
       added = h.added ++ last ∷ [];
-      is = instruction here spelled refl;
+      is = instruction here s refl;
       new_is = n ∙ ap (λ l. l ++ last ∷ []) h.new_is ∙ append_assoc old h.added (last ∷ []);
     }
 
@@ -156,17 +151,16 @@ module _ (cell rest : List Token) (old new : List Item) (m : Token) (after : Lis
   labels_here : AreLabels (views cell) h.added (views (m ∷ after))
   labels_here = subst (λ l. AreLabels (views cell) h.added (views l)) e h.are
 
-  pub malformed : (f : Token) (more : List Token) → cell ≡ f ∷ more → Answers (toks rest) (Err Form) → IsCellFault (views cell) (Syntax f.line)
+  pub malformed : (f : Token) (more : List Token) → cell ≡ f ∷ more → Answers (kind_of m.kind ∷ operands (views after)) (Err Form) → IsCellFault (views cell) (Syntax f.line)
   malformed f more g a =
-      let b : Answers (without_lines (views (m ∷ after))) (Err Form) = subst (λ l. Answers (without_lines (views l)) (Err Form)) e (subst (λ l. Answers l (Err Form)) (toks_are rest) a) in
       let at : AreLabels (views (f ∷ more)) h.added (views (m ∷ after)) = subst (λ l. AreLabels (views l) h.added (views (m ∷ after))) g labels_here in
-      subst (λ l. IsCellFault (views l) (Syntax f.line)) (sym g) (syntax at (record { no_instruction = b.0; known = b.1; supported = b.2 }))
+      subst (λ l. IsCellFault (views l) (Syntax f.line)) (sym g) (syntax at (record { no_instruction = a.0; known = a.1; supported = a.2 }))
 
-  pub not_known : Answers (toks rest) (Err Name) → IsCellFault (views cell) (UnknownInstr m.line)
-  not_known a = unknown labels_here (subst (λ l. IsUnknown (without_lines (views l))) e (subst IsUnknown (toks_are rest) a))
+  pub not_known : Answers (kind_of m.kind ∷ operands (views after)) (Err Name) → IsCellFault (views cell) (UnknownInstr m.line)
+  not_known a = unknown labels_here a
 
-  pub not_supported : Answers (toks rest) (Err Suffix) → IsCellFault (views cell) (BadAnnotation m.line)
-  not_supported a = annotation labels_here (subst (λ l. IsUnsupported (without_lines (views l))) e (subst IsUnsupported (toks_are rest) a))
+  pub not_supported : Answers (kind_of m.kind ∷ operands (views after)) (Err Suffix) → IsCellFault (views cell) (BadAnnotation m.line)
+  not_supported a = annotation labels_here a
 
 pub room_after : (cell s : List Token) (taken : ℕ) → s ≡ drop taken cell → 2 ≤ length s → taken ≤ length cell → taken + 2 ≤ length cell
 room_after cell s taken e h k =

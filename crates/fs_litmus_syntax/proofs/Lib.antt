@@ -14,6 +14,7 @@ pub mod ConditionReading
 pub mod Limits
 pub mod Atoms
 pub mod ConditionAnswering
+pub mod NumberedLemmas
 pub mod CellLemmas
 pub mod ListingLemmas
 pub mod ColumnLemmas

@@ -1,13 +1,13 @@
 -- The cells of a hart (herd7's format of litmus tests): any number of labels, and then an instruction or nothing.
 use Rattle.std.specs.Prelude.{◌≡◌, ℕ, List, [], ◌∷◌, ◌++◌, Bool, true, false, ◌&&◌, Option, Some, None, drop, if◌then◌else◌}
-use Rattle.fs_litmus_tokens.specs.Words.{is_name}
-use Rattle.fs_litmus_tokens.specs.Tokens.{Tok, Lined, Word, Sign, without_lines}
+use Rattle.fs_litmus_tokens.specs.Tokens.{Tok, Lined, Word, Sign}
 use Rattle.fs_litmus_tokens.specs.declared.token.Mark.TheVariants.{Colon}
 use Rattle.fs_instr.specs.Spelled.{Spells, IsUnknown, IsUnsupported}
 use Rattle.fs_instr.specs.declared.instr.Instr.{Instr}
 use Rattle.fs_kinds.specs.declared.fault.Fault.{Fault}
 use Rattle.fs_kinds.specs.declared.fault.Fault.TheVariants.{Syntax, UnknownInstr, BadAnnotation}
 use Rattle.fs_kinds.specs.FaultOrder.{IsFirst}
+use Rattle.fs_litmus_syntax.specs.Numbered.{is_label, operands}
 
 -- what stands in a cell, with its line: a label; or an instruction, with the label that it names where it is a branch
 pub data Item : Type 0 where
@@ -18,9 +18,9 @@ abbrev pub is_colon : Lined → Bool
 is_colon (Sign Colon, line) = true
 is_colon _ = false
 
--- the label at the front, a name and a colon: the name, and its line
+-- the label at the front, a name or a number and a colon: the word, and its line
 abbrev pub front_label : List Lined → Option (List ℕ × ℕ)
-front_label ((Word c w, line) ∷ t ∷ ts) = if is_name c && is_colon t then Some (w, line) else None
+front_label ((Word c w, line) ∷ t ∷ ts) = if is_label c && is_colon t then Some (w, line) else None
 front_label _ = None
 
 -- the tokens are these labels, and then the rest, which begins with no label
@@ -31,7 +31,7 @@ pub data AreLabels : List Lined → List Item → List Lined → Type 0 where
 -- what stands in a cell
 pub data IsCell : List Lined → List Item → Type 0 where
   labels : {ts : List Lined} {xs : List Item} → AreLabels ts xs [] → IsCell ts xs
-  instruction : {ts rest : List Lined} {xs ys : List Item} {t : Tok} {line : ℕ} {i : Instr} {target : Option (List ℕ)} → AreLabels ts xs ((t, line) ∷ rest) → Spells (t ∷ without_lines rest) i target → ys ≡ xs ++ Instruction i target line ∷ [] → IsCell ts ys
+  instruction : {ts rest : List Lined} {xs ys : List Item} {t : Tok} {line : ℕ} {i : Instr} {target : Option (List ℕ)} → AreLabels ts xs ((t, line) ∷ rest) → Spells (t ∷ operands rest) i target → ys ≡ xs ++ Instruction i target line ∷ [] → IsCell ts ys
 
 -- neither an instruction, nor an lr.w.rl or sc.w.aq, nor begun by a word that is no mnemonic
 pub record IsMalformed (ts : List Tok) : Type 0 where
@@ -41,9 +41,9 @@ pub record IsMalformed (ts : List Tok) : Type 0 where
 
 -- the fault of a cell: in the line of its first token, or in that of its mnemonic
 pub data IsCellFault : List Lined → Fault → Type 0 where
-  syntax : {t u : Tok} {line k : ℕ} {ts rest : List Lined} {xs : List Item} → AreLabels ((t, line) ∷ ts) xs ((u, k) ∷ rest) → IsMalformed (u ∷ without_lines rest) → IsCellFault ((t, line) ∷ ts) (Syntax line)
-  unknown : {ts rest : List Lined} {u : Tok} {line : ℕ} {xs : List Item} → AreLabels ts xs ((u, line) ∷ rest) → IsUnknown (u ∷ without_lines rest) → IsCellFault ts (UnknownInstr line)
-  annotation : {ts rest : List Lined} {u : Tok} {line : ℕ} {xs : List Item} → AreLabels ts xs ((u, line) ∷ rest) → IsUnsupported (u ∷ without_lines rest) → IsCellFault ts (BadAnnotation line)
+  syntax : {t u : Tok} {line k : ℕ} {ts rest : List Lined} {xs : List Item} → AreLabels ((t, line) ∷ ts) xs ((u, k) ∷ rest) → IsMalformed (u ∷ operands rest) → IsCellFault ((t, line) ∷ ts) (Syntax line)
+  unknown : {ts rest : List Lined} {u : Tok} {line : ℕ} {xs : List Item} → AreLabels ts xs ((u, line) ∷ rest) → IsUnknown (u ∷ operands rest) → IsCellFault ts (UnknownInstr line)
+  annotation : {ts rest : List Lined} {u : Tok} {line : ℕ} {xs : List Item} → AreLabels ts xs ((u, line) ∷ rest) → IsUnsupported (u ∷ operands rest) → IsCellFault ts (BadAnnotation line)
 
 -- what stands in cells, in order
 pub data AreCells : List (List Lined) → List Item → Type 0 where

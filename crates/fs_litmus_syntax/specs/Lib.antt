@@ -10,6 +10,7 @@ pub mod Machine
 pub mod Limited
 pub mod Views
 pub mod Answer
+pub mod Numbered
 pub mod Cells
 pub mod inner
 pub mod Columns

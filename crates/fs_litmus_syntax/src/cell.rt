@@ -5,11 +5,12 @@ ghost use Rattle.fs_litmus_tokens.specs.Tokens.{view, views};
 ghost use Rattle.fs_litmus_syntax.specs.Cells.{is_colon, front_label, AddsLabels, AddsCell};
 
 use crate::listing::Listing;
+use crate::numbered::{is_label, with_names};
 use crate::slices::skip;
 use fs_instr::{Refused, read_tokens};
 use fs_kinds::Fault;
 use fs_litmus_tokens::{Kind, Mark, Token};
-use std::alloc::AllocError;
+use std::alloc::{AllocError, Global};
 
 /// Is it a colon?
 fn is_colon(token: &Token<'_>) -> bool
@@ -27,7 +28,7 @@ fn front_label<'a>(tokens: &[Token<'a>]) -> Option<(&'a str, usize)>
     let (second, _) = rest.split_first()?;
     match first.kind {
         Kind::Word(class, name) => {
-            if class.is_name() && is_colon(second) {
+            if is_label(class) && is_colon(second) {
                 Some((name, first.line))
             } else {
                 None
@@ -54,6 +55,7 @@ fn read_labels<'a>(cell: &[Token<'a>], listing: &mut Listing<'a>) -> Result<usiz
 /// Appends what stands in a cell to the hart's listing; or the cell's fault, and then the listing is of no use. Linear
 /// in the tokens. Fails only for want of memory.
 pub(crate) fn read_cell<'a>(
+    alloc: Global,
     cell: &[Token<'a>],
     listing: &mut Listing<'a>,
 ) -> Result<Option<Fault>, AllocError>
@@ -64,10 +66,11 @@ pub(crate) fn read_cell<'a>(
     };
     let taken = read_labels(cell, listing)?;
     let rest = skip(cell, taken);
-    let Some((mnemonic, _)) = rest.split_first() else {
+    let Some((mnemonic, after)) = rest.split_first() else {
         return Ok(None);
     };
-    match read_tokens(rest) {
+    let tokens = with_names(alloc, mnemonic, after)?;
+    match read_tokens(&tokens) {
         Ok(parsed) => {
             listing.push_instruction(parsed.instr, parsed.label, mnemonic.line)?;
             Ok(None)

@@ -26,7 +26,7 @@ pub(crate) fn read_column<'a>(
     let mut fault = None;
     let mut rest = cells;
     while let Some((cell, after)) = rest.split_first() {
-        let found = read_cell(cell, &mut listing)?;
+        let found = read_cell(alloc, cell, &mut listing)?;
         fault = earliest(fault, found);
         rest = skip(after, columns - 1);
     }

@@ -17,6 +17,7 @@ mod labels;
 mod layer;
 mod lines;
 mod listing;
+mod numbered;
 mod reader;
 mod rows;
 mod slices;

@@ -434,8 +434,8 @@ fn read_all<'b, 'a>(alloc: Global, tokens: &'b [Token<'a>]) -> Result<Condition<
 /// The condition that the tokens are, all of them, in herd7's format: units joined by `/\`, these joined by `\/`, and
 /// these by `=>`, which denies what stands before it and is `\/` then. A unit is `~` or the word `not` and a unit, a
 /// condition in parentheses, `true`, `false`, or an atom: a target, `=` or `==` and a value, or `<>` or `!=`, which
-/// denies it. No word is reserved: where one of these comes after `not`, `true` or `false`, the word names a location. A
-/// `;` may stand behind it. Stops at the first token with which the tokens so far begin no condition. Linear in the
+/// denies it. No word is reserved: where one of these comes after `not`, `true` or `false`, the word names a location.
+/// A `;` may stand behind it. Stops at the first token with which the tokens so far begin no condition. Linear in the
 /// tokens; at most 80 bytes of memory an open parenthesis, a few words an atom, and no recursion.
 pub fn read_condition<'b, 'a>(
     alloc: Global,

@@ -31,13 +31,16 @@ pub trait Gate {
     fn ended(&self, logged: Option<usize>);
 }
 
-/// A gate that holds nobody up.
+/// So many nodes are many: they take some 20 ms, and threads a fraction of one to begin.
+const MANY_NODES: usize = 1_000;
+
+/// A gate that holds nobody up. The others join when the first worker is done with 1,000 nodes.
 #[derive(Clone, Copy)]
 pub struct Open;
 
 impl Gate for Open {
     fn nodes_alone(&self) -> usize {
-        usize::MAX
+        MANY_NODES
     }
 
     fn planned(&self) {}

@@ -237,8 +237,8 @@ fn fences_leave_fewer_executions(rt: HostRuntime) -> Result<(), Fail> {
 }
 
 /// Compares on the runs over the words that the locations begin with: nothing else is stored.
-fn compare_pointer(alloc: Global) -> Result<usize, Fault> {
-    let test = read_test(alloc, POINTER.as_bytes())?;
+fn compare_values(alloc: Global, text: &str) -> Result<usize, Fault> {
+    let test = read_test(alloc, text.as_bytes())?;
     let values = Values::of(alloc, &test)?;
     let runs = runs_over(alloc, &test, values.as_slice())?;
     compare_runs(alloc, &test, &runs, "")
@@ -247,7 +247,7 @@ fn compare_pointer(alloc: Global) -> Result<usize, Fault> {
 /// The loaded address binds the store behind the second load too: it may only be the last or the second one.
 #[test]
 fn an_address_comes_before_what_follows_it(rt: HostRuntime) -> Result<(), Fail> {
-    let found = compare_pointer(rt.alloc())?;
+    let found = compare_values(rt.alloc(), POINTER)?;
     assert_eq!(rt; found, 2);
     Ok(())
 }

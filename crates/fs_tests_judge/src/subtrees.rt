@@ -37,14 +37,14 @@ fn looked(
     Ok(text)
 }
 
-/// The same of what a hunt finds on the lock of three harts: with its sizes; where no size is known; and where each
+/// The same of what a hunt finds on this lock of three harts: with its sizes; where no size is known; and where each
 /// inference is said to be a whole subtree.
-fn all_looked(alloc: Global) -> Result<String, Fault> {
-    let test = Arc::new(alloc, read_test(alloc, LOCK3.as_bytes())?)?;
+fn all_looked(alloc: Global, text: &str) -> Result<String, Fault> {
+    let test = Arc::new(alloc, read_test(alloc, text.as_bytes())?)?;
     let placement = placement_of(alloc, &test, LOCK3_FENCES)?;
     let basis = Basis::new(alloc, &test)?;
     let hunter = hunter_of(alloc, &test, basis.names(), basis.runs())?;
-    let mut text = String::new(alloc);
+    let mut lines = String::new(alloc);
     let found = hunter.hunt(alloc, &mut Kept::new(), &placement, MOST)?;
     if let Found::Refuted(tree) = found {
         let mut ones = Vec::new(alloc);
@@ -53,15 +53,15 @@ fn all_looked(alloc: Global) -> Result<String, Fault> {
         }
         for sizes in [tree.sizes.as_slice(), &[], ones.as_slice()] {
             let line = looked(alloc, &basis, &placement, &tree, sizes)?;
-            text.push_str(line.as_str())?;
+            lines.push_str(line.as_str())?;
         }
     }
-    Ok(text)
+    Ok(lines)
 }
 
 #[test]
 fn subtrees_are_looked_at_apart(rt: HostRuntime) -> Result<(), Fail> {
-    let text = all_looked(rt.alloc())?;
-    assert_eq!(rt; text.as_str(), "true true true\nfalse true true\nnone\n");
+    let lines = all_looked(rt.alloc(), LOCK3)?;
+    assert_eq!(rt; lines.as_str(), "true true true\nfalse true true\nnone\n");
     Ok(())
 }

@@ -10,6 +10,33 @@ use std::sync::atomic::{AtomicU64, AtomicUsize, Ordering};
 use std::test::Fail;
 use std::thread::Threads;
 
+/// The same price for each kind, so that the search has many nodes.
+const EQUAL: &str =
+    r#"{"r,r":10,"r,w":10,"r,rw":10,"w,r":10,"w,w":10,"w,rw":10,"rw,r":10,"rw,w":10,"rw,rw":10,
+"tso":10}"#;
+
+/// A lock for readers and a writer in one word. Bad: a reader sees one of the two words that the writer stores.
+const READERS: &str = "RISCV READERS
+{
+0:x5=-1; 0:x6=lock; 0:x8=a; 0:x10=b;
+1:x5=-1; 1:x6=lock; 1:x8=a; 1:x10=b;
+2:x5=-1; 2:x6=lock; 2:x8=a; 2:x10=b;
+}
+P0 | P1 | P2 ;
+lr.w x7,(x6) | lr.w x7,(x6) | lr.w x7,(x6) ;
+bne x7,x0,OUT | blt x7,x0,OUT | blt x7,x0,OUT ;
+sc.w x9,x5,(x6) | addi x7,x7,1 | addi x7,x7,1 ;
+bne x9,x0,OUT | sc.w x9,x7,(x6) | sc.w x9,x7,(x6) ;
+ori x11,x0,1 | bne x9,x0,OUT | bne x9,x0,OUT ;
+sw x11,0(x8) | lw x11,0(x8) | lw x11,0(x8) ;
+sw x11,0(x10) | lw x13,0(x10) | lw x13,0(x10) ;
+sw x0,0(x6) | ori x14,x0,1 | ori x14,x0,1 ;
+OUT: | amoadd.w x0,x5,(x6) | amoadd.w x0,x5,(x6) ;
+| OUT: | OUT: ;
+exists ((1:x14=1 /\\ ((1:x11=0 /\\ 1:x13=1) \\/ (1:x11=1 /\\ 1:x13=0)))
+\\/ (2:x14=1 /\\ ((2:x11=0 /\\ 2:x13=1) \\/ (2:x11=1 /\\ 2:x13=0))))
+";
+
 /// After how many nodes of the first worker the others join; how often the workers' board was handed out, with how many
 /// entries in its log at last, and how often it was given up.
 #[derive(Drop)]
@@ -220,6 +247,32 @@ fn any_number_of_workers_answers_the_same(rt: HostRuntime) -> Result<(), Fail> {
         }
         assert!(rt; ends.are(3));
     }
+    Ok(())
+}
+
+/// The answer that four workers find where nothing is held up and there are many nodes, as a line, with what the whole
+/// log shows of who searched for it; or the line of the fault.
+fn answered_by_four<R: Threads + Wait + Sync>(rt: &R, alloc: Global) -> Result<String, Fault> {
+    let question = question_of(alloc, READERS, EQUAL)?;
+    let solved = solve(rt, alloc, question, 4, 1_000_000, &Open)?;
+    let mut text = line_of(alloc, &solved)?;
+    if let Some(board) = solved.board() {
+        write_doers(board.log(), &mut text)?;
+    }
+    Ok(text)
+}
+
+/// The writer's stores come before it leaves, and each reader's loads behind its entry and before it leaves: five
+/// fences. A thread may begin only when the first one is done: then they try again.
+#[test]
+fn a_board_of_many_nodes_is_shared(rt: HostRuntime) -> Result<(), Fail> {
+    let mut is_shared = false;
+    for _ in 0..20 {
+        let line = told(rt.alloc(), answered_by_four(&rt, rt.alloc()))?;
+        assert!(rt; line.starts_with("fenced 50 "));
+        is_shared = is_shared || line.contains(" by 0 1");
+    }
+    assert!(rt; is_shared);
     Ok(())
 }
 

@@ -1,4 +1,4 @@
--- What the tokens below the first line are: the sections and the condition, or where they stop being that.
+-- What the tokens below the title's line are: the sections and the condition, or where they stop being that.
 use Rattle.std.specs.Prelude.{◌≡◌, ℕ, List}
 use Rattle.fs_kinds.specs.declared.fault.Fault as faults
 use Rattle.fs_kinds.specs.declared.fault.Fault.TheVariants as fault

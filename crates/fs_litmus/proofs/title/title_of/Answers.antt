@@ -1,11 +1,12 @@
-use Rattle.std.proofs.Common.{◌≡◌, ℕ, ◌==◌, length, true, sym, arith, ◌∙◌}
-use Rattle.std.proofs.lemmas.Bool.Decides.{nat_tests}
-use Rattle.fs_litmus.proofs.NoTitle.{untitled}
+use Rattle.std.proofs.Common.{ap, sym, subst}
+use Rattle.std.specs.Prelude.{IfSome}
+use Rattle.fs_litmus.specs.Title.{IsTitled}
 use Rattle.fs_litmus.proofs.title.title_of.Goals as goal
 
-is_zero : (n : ℕ) → (n == 0) ≡ true → n ≡ 0
-is_zero n h = grind (arith, nat_tests)
+pub returns-clause-named : goal.returns-clause-named
+returns-clause-named c =
+    subst (λ t. IfSome c.name_of.result (λ name. IsTitled t name.now)) (ap (λ x. x.0) c.skip_top.ensures.value) c.name_of.ensures.named
 
-pub returns-then-is_empty-clause-absent : goal.returns-then-is_empty-clause-absent
-returns-then-is_empty-clause-absent c = λ _ name h.
-    untitled c.args.bytes.now c.line_of.result.now c.in_ok-words.words.now c.in_ok-blank.rest.now c.trimmed-name.result.now name c.in_ok-blank.blank.now c.line_of.ensures c.in_ok-words.ensures.cases.1 c.in_ok-blank.ensures.cases.0 (is_zero (length c.trimmed-name.result.now) (sym c.is_empty.ensures ∙ c.if-is_empty.true)) c.trimmed-name.ensures h
+pub returns-clause-absent : goal.returns-clause-absent
+returns-clause-absent c = λ none name h.
+    c.name_of.ensures.absent none name (subst (λ t. IsTitled t name) (sym (ap (λ x. x.0) c.skip_top.ensures.value)) h)
