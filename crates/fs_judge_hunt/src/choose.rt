@@ -172,7 +172,12 @@ impl Chooser<'_> {
             if best.is_some() && options.is_late(number, choice, most) {
                 break;
             }
-            let Some(split) = self.try_split(trail, choice.decision, most)? else {
+            let limit = if best.is_some() {
+                choice.limit(most)
+            } else {
+                most
+            };
+            let Some(split) = self.try_split(trail, choice.decision, limit)? else {
                 continue;
             };
             most = split.live;

@@ -13,7 +13,7 @@ use std::alloc::AllocError;
 const MOST_ASKED: usize = 8;
 
 /// So many open regions are few. Where a split leaves few, harts are not looked at of which the wanted conditions don't
-/// speak.
+/// speak; where it leaves more, a split of theirs is to leave fewer than few.
 const FEW_OPEN: usize = 2;
 
 /// Which splits are tried before others.
@@ -48,6 +48,17 @@ impl Options {
     /// Is the split of this number not worth a try, where another one leaves so many regions open?
     pub(crate) fn is_late(&self, number: usize, choice: &Choice, open: usize) -> bool {
         open <= FEW_OPEN && (number >= self.most || choice.class == Class::Other)
+    }
+}
+
+impl Choice {
+    /// It is to leave fewer regions open than this, where another split leaves so many.
+    pub(crate) fn limit(&self, open: usize) -> usize {
+        if self.class == Class::Other {
+            open.min(FEW_OPEN)
+        } else {
+            open
+        }
     }
 }
 
