@@ -1,13 +1,96 @@
 //! Finds the first of the cheapest placements that break all bars.
 
-ghost use Rattle.std.specs.Prelude.{◌≢◌, ◌⊎◌, ◌≡◌, IfOk, IfErr, IfSome, MatchOption};
+ghost use Rattle.std.specs.Prelude.{◌≢◌, ◌⊎◌, ◌≡◌, ℕ, IsTrue, IfOk, IfErr, IfSome, MatchOption, IsOkUnless, Some, None, length, slice_get, option_map};
 ghost use Rattle.fs_kinds.specs.declared.fault.Fault.TheVariants.{Memory, NodeLimit};
+ghost use Rattle.fs_kinds.specs.Slot.{is_rising};
+ghost use Rattle.fs_kinds.specs.Placement.{slots_of};
+ghost use Rattle.fs_board_offers.specs.Offers.{Offer as OfferValue, IsPlacement, slots};
 ghost use Rattle.fs_sites_plan.specs.Plans.{IsFirstBreaking, NoneBreaks};
+ghost use Rattle.fs_sites_plan.specs.Walks.{IsBestBefore, IsBestWith};
 
-use fs_board_offers::Offers;
+use crate::bars::{breaks_all, fits};
+use crate::bound::is_closed;
+use crate::cursor::advance;
+use fs_board_offers::{OPTIONS, Offer, Offers, cost};
 use fs_cert_evidence::Pairs;
-use fs_kinds::{Fault, List, Placement};
-use std::alloc::Global;
+use fs_kinds::{Entry, Fault, List, Placement};
+use std::alloc::{AllocError, Global};
+
+/// The entries as a placement. The error is F19.
+fn placement_of(alloc: Global, offers: &Offers, entries: &[Entry]) -> Result<Placement, Fault>
+    requires { IsPlacement offers.now entries.now }
+    ensures ok { IfOk result (λ p. p ≡ entries.now) }
+    ensures err { IsOkUnless result Fault.Memory }
+{
+    let slots = offers.slots(alloc)?;
+    let mut placement = Placement::bottom(alloc, &slots)?;
+    for entry in entries {
+        put(&mut placement, *entry);
+    }
+    Ok(placement)
+}
+
+/// Puts the entry's kind at its slot.
+fn put(placement: &mut Placement, entry: Entry) {
+    match placement.with(entry.slot, entry.kind) {
+        Ok(()) | Err(_) => {}
+    }
+}
+
+/// In how many ways can a bar be broken?
+fn count_ways(offers: &[Offer], bar: &[Pairs]) -> usize {
+    let mut ways: usize = 0;
+    for (offer, pairs) in offers.iter().zip(bar) {
+        for kind in OPTIONS {
+            if offer.is_offered(kind) && !fits(*pairs, kind) {
+                ways = ways.saturating_add(1);
+            }
+        }
+    }
+    ways
+}
+
+/// The numbers of the bars, those first that can be broken in few ways.
+fn order_of(
+    alloc: Global,
+    offers: &[Offer],
+    bars: &[List<Pairs>],
+) -> Result<Vec<usize>, AllocError> {
+    let mut counted = Vec::new(alloc);
+    for (number, bar) in bars.iter().enumerate() {
+        counted.push((count_ways(offers, bar.as_slice()), number))?;
+    }
+    counted.sort_unstable();
+    let mut order = Vec::new(alloc);
+    for (_, number) in &counted {
+        order.push(*number)?;
+    }
+    Ok(order)
+}
+
+/// The best placement with the one at the cursor, where this breaks all bars and costs less. The error is F19.
+fn with_this(
+    alloc: Global,
+    offers: &Offers,
+    bars: &[List<Pairs>],
+    cursor: &[Entry],
+    best: Option<Placement>,
+) -> Result<Option<Placement>, Fault>
+    requires placement { IsPlacement offers.now cursor.now }
+    requires before { IsBestBefore offers.now bars.now cursor.now best }
+    ensures ok { IfOk result (IsBestWith offers.now bars.now cursor.now) }
+    ensures err { IsOkUnless result Fault.Memory }
+{
+    if !breaks_all(bars, cursor) {
+        return Ok(best);
+    }
+    if let Some(best) = &best {
+        if cost(offers, best.as_slice()) <= cost(offers, cursor) {
+            return Ok(Some(best.copy()?));
+        }
+    }
+    Ok(Some(placement_of(alloc, offers, cursor)?))
+}
 
 /// Of the placements that the offers allow the cheapest that breaks all bars, and of these the first; none where no
 /// placement does. F16 where that isn't found out in so many steps; else the error is F19.
@@ -17,10 +100,28 @@ pub fn first_breaking(
     bars: &[List<Pairs>],
     most_steps: usize,
 ) -> Result<Option<Placement>, Fault>
+    requires { (k : ℕ) (o : OfferValue) → slice_get offers.now k ≡ Some o → o.written ≡ None }
     ensures ok { IfOk result (λ found. MatchOption found (NoneBreaks offers.now bars.now)
         (IsFirstBreaking offers.now bars.now)) }
     ensures err { IfErr result (λ f. f ≢ Memory → f ≡ NodeLimit) }
 {
-    let _ = (alloc, offers, bars, most_steps);
-    Err(Fault::Memory)
+    let sites = offers.as_slice();
+    let order = order_of(alloc, sites, bars)?;
+    let mut cursor = Vec::new(alloc);
+    let mut best = None;
+    for _ in 0..most_steps {
+        if cursor.len() == sites.len() {
+            best = with_this(alloc, offers, bars, &cursor, best)?;
+        } else if !is_closed(alloc, offers, bars, &order, &cursor, best.as_ref())? {
+            cursor.push(Entry {
+                slot: sites[cursor.len()].slot,
+                kind: None,
+            })?;
+            continue;
+        }
+        if !advance(sites, &mut cursor)? {
+            return Ok(best);
+        }
+    }
+    Err(Fault::NodeLimit)
 }
