@@ -52,3 +52,8 @@ sunk d _ offers = offers
 abbrev pub IsAtMost : Option ℕ → ℕ → Type 0
 IsAtMost None n = ⊥
 IsAtMost (Some m) n = m ≤ n
+
+-- what is left to pay for these entries sank by so much; where it is none there are no such entries
+abbrev pub HasPaid : Option ℕ → (old new : List Offer) → List Entry → Type 0
+HasPaid None old new p = ⊥
+HasPaid (Some d) old new p = Fills new p × (d + paid new p ≤ paid old p)

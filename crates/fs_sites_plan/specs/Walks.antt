@@ -38,10 +38,14 @@ pub record Follows (offers : Offers) (old new : List Entry) : Type 0 where
 abbrev pub IsEnd : Offers → List Entry → Type 0
 IsEnd offers cursor = (q : List Entry) → Fills offers q → is_reached q cursor ≡ true
 
--- the placement costs no less than the best one; where there is none yet each costs less
+-- the placement costs no less than the best one, or it costs less; where there is none yet each costs less
 abbrev pub CostsNoLess : Offers → (best : Option (List Entry)) → List Entry → Type 0
 CostsNoLess offers None q = ⊥
 CostsNoLess offers (Some p) q = cost offers p ≤ cost offers q
+
+abbrev pub CostsLess : Offers → (best : Option (List Entry)) → List Entry → Type 0
+CostsLess offers None q = Unit {0}
+CostsLess offers (Some p) q = cost offers q < cost offers p
 
 -- what begins with the cursor and breaks all bars costs no less than the best placement
 abbrev pub Closes : Offers → List (List Pairs) → Option (List Entry) → List Entry → Type 0
@@ -50,15 +54,15 @@ Closes offers bars best cursor =
     → CostsNoLess offers best q
 
 -- a placement that breaks all bars, among those that were seen
-pub record IsFound (offers : Offers) (bars : List (List Pairs)) (seen : List Entry → Bool) (p : List Entry) : Type 0 where
+pub record IsFound (offers : Offers) (bars : List (List Pairs)) (was_seen : List Entry → Bool) (p : List Entry) : Type 0 where
   pub placement : IsPlacement offers p
   pub breaks : breaks_all bars p ≡ true
-  pub seen : seen p ≡ true
+  pub seen : was_seen p ≡ true
 
 -- Of the placements that were seen the best one that breaks all bars.
-pub record IsBestOf (offers : Offers) (bars : List (List Pairs)) (seen : List Entry → Bool) (best : Option (List Entry)) : Type 0 where
-  pub found : IfSome best (IsFound offers bars seen)
-  pub none_better : (q : List Entry) → IsPlacement offers q → breaks_all bars q ≡ true → seen q ≡ true → IsNoBetter offers best q
+pub record IsBestOf (offers : Offers) (bars : List (List Pairs)) (was_seen : List Entry → Bool) (best : Option (List Entry)) : Type 0 where
+  pub found : IfSome best (IsFound offers bars was_seen)
+  pub none_better : (q : List Entry) → IsPlacement offers q → breaks_all bars q ≡ true → was_seen q ≡ true → IsNoBetter offers best q
 
 -- all before the cursor was seen
 abbrev pub IsBestBefore : Offers → List (List Pairs) → List Entry → Option (List Entry) → Type 0

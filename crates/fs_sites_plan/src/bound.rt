@@ -1,10 +1,10 @@
 //! What placements that begin with what is decided and break all bars cost at least.
 
-ghost use Rattle.std.specs.Prelude.{◌≡◌, ◌+◌, ◌≤◌, true, IfOk, IfSome, IsTrue, List, ◌++◌, option_map};
+ghost use Rattle.std.specs.Prelude.{◌≡◌, ◌+◌, ◌≤◌, true, false, IfOk, IfSome, IsTrue, List, ◌++◌, option_map};
 ghost use Rattle.fs_kinds.specs.declared.placement.Entry.{Entry as EntryValue};
 ghost use Rattle.fs_board_offers.specs.Breaks.{break_cost, least_of};
-ghost use Rattle.fs_sites_plan.specs.Plans.{breaks_all};
-ghost use Rattle.fs_sites_plan.specs.Sinking.{Fills, paid, least_in, sunk_price, sunk_offer, sunk, IsAtMost};
+ghost use Rattle.fs_sites_plan.specs.Plans.{is_within, breaks_all};
+ghost use Rattle.fs_sites_plan.specs.Sinking.{Fills, Begins, paid, least_in, sunk_price, sunk_offer, sunk, IsAtMost, HasPaid};
 ghost use Rattle.fs_sites_plan.specs.Walks.{Closes};
 
 use crate::bars::{fits, unbroken_rest};
@@ -82,18 +82,27 @@ fn sunk_offer(offer: &Offer, pairs: Pairs, less: u32) -> Offer
     }
 }
 
-/// Makes each way to break the bar at these sites so much cheaper. It calls itself once for each site.
+/// Makes each way to break the bar at these sites so much cheaper.
 fn sink(bar: &[Pairs], offers: &mut [Offer], less: u32)
     ensures { offers.new ≡ sunk less bar.now offers.old }
 {
-    let [pairs, bar @ ..] = bar else {
-        return;
+    for site in 0..bar.len().min(offers.len()) {
+        offers[site] = sunk_offer(&offers[site], bar[site], less);
+    }
+}
+
+/// Pays for a bar that isn't broken by what is decided: what the cheapest way costs to break it, by which each way
+/// becomes cheaper; none where it can't be broken.
+fn pay(bar: &[Pairs], decided: &[Entry], offers: &mut [Offer]) -> Option<u32>
+    ensures { (rest : List EntryValue) → Fills offers.old rest → is_within bar.now (decided.now ++ rest) ≡ false
+        → HasPaid result offers.old offers.new rest }
+{
+    let Some(rest) = unbroken_rest(bar, decided) else {
+        return Some(0);
     };
-    let [offer, offers @ ..] = offers else {
-        return;
-    };
-    *offer = sunk_offer(offer, *pairs, less);
-    sink(bar, offers, less);
+    let least = least_in(rest, offers)?;
+    sink(rest, offers, least);
+    Some(least)
 }
 
 /// The same offers.
@@ -128,15 +137,13 @@ fn bound(
     let mut offers = copied(alloc, undecided)?;
     let mut least = cost;
     for number in order {
-        if let Some(bar) = bars.get(*number)
-            && let Some(rest) = unbroken_rest(bar.as_slice(), decided)
-        {
-            let Some(paid) = least_in(rest, &offers) else {
-                return Ok(None);
-            };
-            sink(rest, &mut offers, paid);
-            least = least.saturating_add(u128::from(paid));
-        }
+        let Some(bar) = bars.get(*number) else {
+            continue;
+        };
+        let Some(paid) = pay(bar.as_slice(), decided, &mut offers) else {
+            return Ok(None);
+        };
+        least = least.saturating_add(u128::from(paid));
     }
     Ok(Some(least))
 }
@@ -150,15 +157,15 @@ pub(crate) fn is_closed(
     decided: &[Entry],
     best: Option<&Placement>,
 ) -> Result<bool, AllocError>
+    requires { Begins offers.now decided.now }
     ensures { IfOk result (λ closed. IsTrue closed
         → Closes offers.now bars.now (option_map (λ p. p.now) best.entry) decided.now) }
 {
     let undecided = &offers.as_slice()[decided.len()..];
-    match bound(alloc, undecided, bars, order, decided, cost(offers, decided))? {
-        None => Ok(true),
-        Some(least) => match best {
-            None => Ok(false),
-            Some(best) => Ok(cost(offers, best.as_slice()) <= least),
-        },
-    }
+    let least = bound(alloc, undecided, bars, order, decided, cost(offers, decided))?;
+    Ok(match (least, best) {
+        (None, _) => true,
+        (_, None) => false,
+        (Some(least), Some(best)) => cost(offers, best.as_slice()) <= least,
+    })
 }

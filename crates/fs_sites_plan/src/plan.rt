@@ -1,12 +1,13 @@
 //! Finds the first of the cheapest placements that break all bars.
 
-ghost use Rattle.std.specs.Prelude.{◌≢◌, ◌⊎◌, ◌≡◌, ℕ, IsTrue, IfOk, IfErr, IfSome, MatchOption, IsOkUnless, Some, None, length, slice_get, option_map};
+ghost use Rattle.std.specs.Prelude.{◌≢◌, ◌⊎◌, ◌≡◌, ℕ, IsTrue, IfOk, IfErr, IfSome, MatchOption, IsOkUnless, None, length, option_map};
 ghost use Rattle.fs_kinds.specs.declared.fault.Fault.TheVariants.{Memory, NodeLimit};
 ghost use Rattle.fs_kinds.specs.Slot.{is_rising};
-ghost use Rattle.fs_kinds.specs.Placement.{slots_of};
-ghost use Rattle.fs_board_offers.specs.Offers.{Offer as OfferValue, IsPlacement, slots};
-ghost use Rattle.fs_sites_plan.specs.Plans.{IsFirstBreaking, NoneBreaks};
-ghost use Rattle.fs_sites_plan.specs.Walks.{IsBestBefore, IsBestWith};
+ghost use Rattle.fs_kinds.specs.Placement.{slots_of, has_slot, with_kind};
+ghost use Rattle.fs_board_offers.specs.Offers.{IsPlacement, slots};
+ghost use Rattle.fs_sites_plan.specs.Plans.{ArePlain, IsFirstBreaking, NoneBreaks};
+ghost use Rattle.fs_sites_plan.specs.Sinking.{Begins};
+ghost use Rattle.fs_sites_plan.specs.Walks.{CostsLess, CostsNoLess, IsBestBefore, IsBestWith};
 
 use crate::bars::{breaks_all, fits};
 use crate::bound::is_closed;
@@ -31,7 +32,10 @@ fn placement_of(alloc: Global, offers: &Offers, entries: &[Entry]) -> Result<Pla
 }
 
 /// Puts the entry's kind at its slot.
-fn put(placement: &mut Placement, entry: Entry) {
+fn put(placement: &mut Placement, entry: Entry)
+    requires { IsTrue (has_slot entry.slot placement.old) }
+    ensures { placement.new ≡ with_kind entry.slot entry.kind placement.old }
+{
     match placement.with(entry.slot, entry.kind) {
         Ok(()) | Err(_) => {}
     }
@@ -68,7 +72,18 @@ fn order_of(
     Ok(order)
 }
 
-/// The best placement with the one at the cursor, where this breaks all bars and costs less. The error is F19.
+/// Does the placement cost less than the best one, or is there none?
+fn is_cheaper(offers: &Offers, placement: &[Entry], best: Option<&Placement>) -> bool
+    ensures yes { IsTrue result → CostsLess offers.now (option_map (λ p. p.now) best.entry) placement.now }
+    ensures no { result ≡ false → CostsNoLess offers.now (option_map (λ p. p.now) best.entry) placement.now }
+{
+    match best {
+        None => true,
+        Some(best) => cost(offers, placement) < cost(offers, best.as_slice()),
+    }
+}
+
+/// The best placement, now that the whole one at the cursor is seen. The error is F19.
 fn with_this(
     alloc: Global,
     offers: &Offers,
@@ -76,20 +91,28 @@ fn with_this(
     cursor: &[Entry],
     best: Option<Placement>,
 ) -> Result<Option<Placement>, Fault>
-    requires placement { IsPlacement offers.now cursor.now }
+    requires plain { ArePlain offers.now }
+    requires begins { Begins offers.now cursor.now }
+    requires whole { length cursor.now ≡ length offers.now }
     requires before { IsBestBefore offers.now bars.now cursor.now best }
     ensures ok { IfOk result (IsBestWith offers.now bars.now cursor.now) }
     ensures err { IsOkUnless result Fault.Memory }
 {
-    if !breaks_all(bars, cursor) {
-        return Ok(best);
+    if breaks_all(bars, cursor) && is_cheaper(offers, cursor, best.as_ref()) {
+        Ok(Some(placement_of(alloc, offers, cursor)?))
+    } else {
+        Ok(best)
     }
-    if let Some(best) = &best {
-        if cost(offers, best.as_slice()) <= cost(offers, cursor) {
-            return Ok(Some(best.copy()?));
-        }
+}
+
+/// The offer's slot with no fence.
+fn empty_at(offer: &Offer) -> Entry
+    ensures { result ≡ record { slot = offer.now.slot; kind = None } }
+{
+    Entry {
+        slot: offer.slot,
+        kind: None,
     }
-    Ok(Some(placement_of(alloc, offers, cursor)?))
 }
 
 /// Of the placements that the offers allow the cheapest that breaks all bars, and of these the first; none where no
@@ -100,7 +123,7 @@ pub fn first_breaking(
     bars: &[List<Pairs>],
     most_steps: usize,
 ) -> Result<Option<Placement>, Fault>
-    requires { (k : ℕ) (o : OfferValue) → slice_get offers.now k ≡ Some o → o.written ≡ None }
+    requires { ArePlain offers.now }
     ensures ok { IfOk result (λ found. MatchOption found (NoneBreaks offers.now bars.now)
         (IsFirstBreaking offers.now bars.now)) }
     ensures err { IfErr result (λ f. f ≢ Memory → f ≡ NodeLimit) }
@@ -113,10 +136,7 @@ pub fn first_breaking(
         if cursor.len() == sites.len() {
             best = with_this(alloc, offers, bars, &cursor, best)?;
         } else if !is_closed(alloc, offers, bars, &order, &cursor, best.as_ref())? {
-            cursor.push(Entry {
-                slot: sites[cursor.len()].slot,
-                kind: None,
-            })?;
+            cursor.push(empty_at(&sites[cursor.len()]))?;
             continue;
         }
         if !advance(sites, &mut cursor)? {

@@ -1,0 +1,4 @@
+pub mod Placed
+pub mod Reaching
+pub mod Sinking
+pub mod Walking
