@@ -5,6 +5,7 @@ ghost use Rattle.fs_kinds.specs.declared.fault.Fault.TheVariants.{Memory};
 ghost use Rattle.fs_kinds.specs.Placement.{all_with};
 ghost use Rattle.fs_kinds.specs.Slot.{is_rising};
 ghost use Rattle.fs_sites.specs.Questions.{image, kind_of, slots_at};
+ghost use Rattle.fs_sites.specs.inner.Fills.{put_at};
 
 use crate::question::Place;
 use fs_kinds::{Fault, Kind, Placement, Slot};
@@ -24,16 +25,26 @@ fn kind_of(site: usize, placement: &Placement) -> Option<Kind>
     placement.as_slice().get(site)?.kind
 }
 
+/// Puts the fence of the place's site there. Nothing changes where its slot is none of these.
+#[tactic(auto, using(crate::proofs::Filling::put_nowhere))]
+fn put(place: Place, placement: &Placement, fences: &mut Placement)
+    ensures { fences.new ≡ put_at placement.now place fences.old }
+{
+    let kind = kind_of(place.site, placement);
+    match fences.with(place.slot, kind) {
+        Ok(()) | Err(_) => {}
+    }
+}
+
 /// Puts the fence of each place's site there.
-fn fill(places: &[Place], placement: &Placement, image: &mut Placement)
+#[tactic(auto, using(crate::proofs::Filling::put_drop))]
+fn fill(places: &[Place], placement: &Placement, fences: &mut Placement)
     requires rising { is_rising (slots_at places.now) ≡ true }
-    requires empty { image.old ≡ all_with None (slots_at places.now) }
-    ensures { image.new ≡ image places.now placement.now }
+    requires empty { fences.old ≡ all_with None (slots_at places.now) }
+    ensures { fences.new ≡ image places.now placement.now }
 {
     for place in places {
-        match image.with(place.slot, kind_of(place.site, placement)) {
-            Ok(()) | Err(_) => {}
-        }
+        put(*place, placement, fences);
     }
 }
 
@@ -49,7 +60,7 @@ pub(crate) fn image(
     ensures err { IsOkUnless result Memory }
 {
     let slots = slots_at(alloc, places)?;
-    let mut image = Placement::bottom(alloc, &slots)?;
-    fill(places, placement, &mut image);
-    Ok(image)
+    let mut fences = Placement::bottom(alloc, &slots)?;
+    fill(places, placement, &mut fences);
+    Ok(fences)
 }
