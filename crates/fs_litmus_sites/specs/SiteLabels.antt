@@ -1,5 +1,5 @@
 -- The site labels of a test: names that stand as labels in a hart and to which no branch of the hart goes.
-use Rattle.std.specs.Prelude.{ℕ, ◌+◌, zero, suc, List, [], ◌∷◌, ◌++◌, Bool, true, false, ◌&&◌, not, ◌==◌, Option, Some, None, map, if◌then◌else◌}
+use Rattle.std.specs.Prelude.{◌≡◌, ℕ, ◌+◌, zero, suc, List, [], ◌∷◌, ◌++◌, Bool, true, false, ◌&&◌, not, ◌==◌, Option, Some, None, map, if◌then◌else◌}
 use Rattle.std.specs.List.{list_any, filter}
 use Rattle.std.specs.Str.{bytes_eq}
 use Rattle.fs_litmus_tokens.specs.Words.{is_name}
@@ -102,3 +102,15 @@ site_label_of l = record { hart = l.hart; at = l.at; name = l.name.now; line = l
 
 abbrev pub all_of : List site_labels.SiteLabel → List SiteLabel
 all_of ls = map site_label_of ls
+
+-- ---- what is at the front of a cell
+
+-- a label, and then the rest
+pub record BeginsWith (cell : Cell) (l : Label) (rest : Cell) : Type 0 where
+  pub labels : labels_of cell ≡ l ∷ labels_of rest
+  pub instruction : has_instruction cell ≡ has_instruction rest
+
+-- no label; and nothing at all where it is empty
+pub record BeginsWithNone (cell : Cell) (empty : Bool) : Type 0 where
+  pub labels : labels_of cell ≡ []
+  pub instruction : has_instruction cell ≡ not empty

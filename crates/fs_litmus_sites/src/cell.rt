@@ -1,12 +1,12 @@
 //! The site labels of a cell.
 
-ghost use Rattle.std.specs.Prelude.{◌≡◌, ◌×◌, ◌∷◌, ◌++◌, ◌+◌, ◌^◌, ◌<◌, [], IfOk, IfSome, IsNone, length, not, ◌==◌};
+ghost use Rattle.std.specs.Prelude.{◌≡◌, ◌∷◌, ◌++◌, ◌+◌, ◌^◌, ◌<◌, ◌≤◌, ◌==◌, IfOk, IfSome, IsNone, length, drop};
 ghost use Rattle.std.specs.List.{list_any};
 ghost use Rattle.fs_litmus_tokens.specs.Tokens.{view, views};
 ghost use Rattle.fs_litmus_syntax.specs.Body.{cells_of};
 ghost use Rattle.fs_litmus_syntax.specs.Cells.{is_colon};
 ghost use Rattle.fs_litmus_syntax.specs.Numbered.{is_label};
-ghost use Rattle.fs_litmus_sites.specs.SiteLabels.{labels_of, has_instruction, is_word, ends_in, is_site, label_of};
+ghost use Rattle.fs_litmus_sites.specs.SiteLabels.{is_word, ends_in, is_site, label_of, BeginsWith, BeginsWithNone};
 ghost use Rattle.fs_litmus_sites.specs.SiteLabels.{cell_sites, position_after, all_of};
 
 use crate::name::site_name;
@@ -36,27 +36,22 @@ fn is_colon(token: &Token<'_>) -> bool
     matches!(token.kind, Kind::Sign(Mark::Colon))
 }
 
-/// The label at the front, and what stands behind it.
-fn front_label<'b, 'a>(tokens: &'b [Token<'a>]) -> Option<(Label<'a>, &'b [Token<'a>])>
-    ensures labels { IfSome result (λ x. labels_of (views tokens.now) ≡ label_of x.0 ∷ labels_of (views x.1.now)) }
-    ensures behind { IfSome result (λ x. has_instruction (views tokens.now) ≡ has_instruction (views x.1.now)) }
-    ensures shorter { IfSome result (λ x. length x.1.now < length tokens.now) }
-    ensures none { IsNone result → labels_of (views tokens.now) ≡ [] }
-    ensures end { IsNone result → has_instruction (views tokens.now) ≡ not (length tokens.now == 0) }
+/// The label at the front, of two tokens.
+fn front_label<'a>(tokens: &[Token<'a>]) -> Option<Label<'a>>
+    ensures some { IfSome result (λ l. BeginsWith (views tokens.now) (label_of l) (views (drop 2 tokens.now))) }
+    ensures room { IfSome result (λ l. 2 ≤ length tokens.now) }
+    ensures none { IsNone result → BeginsWithNone (views tokens.now) (length tokens.now == 0) }
 {
     let (first, rest) = tokens.split_first()?;
-    let (second, behind) = rest.split_first()?;
+    let (second, _) = rest.split_first()?;
     match first.kind {
         Kind::Word(class, word) => {
             if is_label(class) && is_colon(second) {
-                Some((
-                    Label {
-                        class,
-                        word,
-                        line: first.line,
-                    },
-                    behind,
-                ))
+                Some(Label {
+                    class,
+                    word,
+                    line: first.line,
+                })
             } else {
                 None
             }
@@ -89,12 +84,10 @@ fn ends_in(cell: &[Token<'_>], word: &str) -> bool
 fn some_ends_in(cells: &[&[Token<'_>]], word: &str) -> bool
     ensures { result ≡ list_any (ends_in word.now) (cells_of cells.now) }
 {
-    let mut rest = cells;
-    while let Some((cell, behind)) = rest.split_first() {
+    for cell in cells {
         if ends_in(cell, word) {
             return true;
         }
-        rest = behind;
     }
     false
 }
@@ -121,7 +114,7 @@ pub(crate) fn push_cell<'a>(
     ensures position { IfOk result (λ behind. behind ≡ position_after at (views cell.now)) }
 {
     let mut rest = cell;
-    while let Some((label, behind)) = front_label(rest) {
+    while let Some(label) = front_label(rest) {
         if is_site(cells, label) {
             sites.push(SiteLabel {
                 hart,
@@ -130,7 +123,7 @@ pub(crate) fn push_cell<'a>(
                 line: label.line,
             })?;
         }
-        rest = behind;
+        rest = &rest[2..];
     }
     if rest.is_empty() { Ok(at) } else { Ok(at + 1) }
 }

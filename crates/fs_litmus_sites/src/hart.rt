@@ -19,10 +19,8 @@ pub(crate) fn push_hart<'a>(
         ≡ all_of sites.old.items ++ hart_sites hart (cells_of cells.now)) }
 {
     let mut at = 0;
-    let mut rest = cells;
-    while let Some((cell, behind)) = rest.split_first() {
+    for cell in cells {
         at = push_cell(hart, at, cells, cell, sites)?;
-        rest = behind;
     }
     Ok(())
 }

@@ -32,12 +32,11 @@ fn clash(sites: &[SiteLabel<'_>]) -> Option<usize>
     ensures { result ≡ clash (all_of sites.now) }
 {
     let mut rest = sites;
-    while let Some((first, behind)) = rest.split_first() {
-        let (second, _) = behind.split_first()?;
-        if first.hart == second.hart && first.at == second.at {
-            return Some(second.line);
+    while rest.len() >= 2 {
+        if rest[0].hart == rest[1].hart && rest[0].at == rest[1].at {
+            return Some(rest[1].line);
         }
-        rest = behind;
+        rest = &rest[1..];
     }
     None
 }
