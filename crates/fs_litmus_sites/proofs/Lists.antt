@@ -1,0 +1,2 @@
+-- Lists of site labels as they grow.
+use Rattle.std.proofs.Common.{◌≡◌, refl}

@@ -1,0 +1,3 @@
+pub mod SiteName
+pub mod SiteLabels
+pub mod Sited
