@@ -8,6 +8,8 @@ use Rattle.fs_app_place_order.specs.Place.{IsFencedText}
 use Rattle.fs_app_place_order.specs.Order.{IsOrderAnswer}
 use Rattle.fs_report.specs.Objects.{AreOneAnswer}
 use Rattle.fs_app_solve.specs.Solve.{IsSolved}
+use Rattle.fs_app_sites.specs.Solved.{IsSolved as IsSitesSolved}
+use Rattle.fs_app_sites.specs.declared.content.File.{File}
 use Rattle.fs_app_audit.specs.Audit.{IsAnew, IsAudited, IsMended, IsFirstAnewFault, IsFirstAuditFault, IsFirstMendedFault}
 use Rattle.fs_app_audit.specs.Blocks.{AreBlocks, are_named, blocks_status, blocks_text}
 use Rattle.fs_app_audit.specs.declared.blocks.Block.{Block}
@@ -24,6 +26,7 @@ use Rattle.fs_app_command_line.specs.declared.command.Test.{Test}
 use Rattle.fs_app_command_line.specs.declared.command.Place.{Place}
 use Rattle.fs_app_command_line.specs.declared.command.Order.{Order}
 use Rattle.fs_app_command_line.specs.declared.command.Solve.{Solve}
+use Rattle.fs_app_command_line.specs.declared.command.Sites.{Sites}
 use Rattle.fs_app_command_line.specs.declared.command.Audit.{Audit}
 use Rattle.fs_app_command_line.specs.declared.command.Check.{Check}
 use Rattle.fs_app_files.specs.declared.papers.Papers.{Papers}
@@ -74,6 +77,13 @@ pub record AnswersSolve (solve : Solve) (papers : Papers) (output : Output) : Ty
   pub test_name : papers.test.name.now ≡ solve.test.now
   pub prices_name : papers.prices.name.now ≡ solve.prices.now
   pub answer : IsSolvedAndTold solve.json solve.why papers.test.bytes.items papers.prices.bytes.items output
+
+-- the answer to some files and the prices that were read; or no answer, since a file has a fault
+pub data AnswersSites (sites : Sites) (papers : Papers) (output : Output) : Type 0 where
+  answered : (files : List File) → papers.prices.name.now ≡ sites.prices.now
+      → IsSitesSolved sites.json files papers.prices.bytes.items (string_bytes output.text) output.status
+      → AnswersSites sites papers output
+  refused : output.status ≡ Failure → AnswersSites sites papers output
 
 -- with `--write` the mended test, with `--anew` what is found anew
 abbrev pub IsAuditText : (is_mended is_anew : Bool) (test prices text : List ℕ) (status : Status) → Type 0
@@ -153,6 +163,7 @@ Answers (task.States states) papers output = Unit {0}
 Answers (task.Place place) papers output = AnswersPlace place papers output
 Answers (task.Order order) papers output = AnswersOrder order papers output
 Answers (task.Solve solve) papers output = AnswersSolve solve papers output
+Answers (task.Sites sites) papers output = AnswersSites sites papers output
 Answers (task.Audit audit) papers output = AnswersAudit audit papers output
 Answers (task.Check check) papers output = AnswersCheck check papers output
 Answers (task.Completions shell) papers output = output.status ≡ Success

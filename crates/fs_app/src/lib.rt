@@ -5,6 +5,7 @@ mod audits;
 mod failure;
 mod program;
 mod progress;
+mod sites;
 mod states;
 mod telling;
 

@@ -17,6 +17,7 @@ ghost use Rattle.fs_app.specs.Answers.{AnswersLines, AnswersOrder, AnswersSolve,
 use crate::audits::answer_audit;
 use crate::failure::Failure;
 use crate::progress::Progress;
+use crate::sites::answer_sites;
 use crate::states::{answer_log, answer_states};
 use crate::telling::{answer_why, is_yes, order_why, solve_why, tests_why, with_below};
 use clap::error::ErrorKind;
@@ -50,7 +51,7 @@ const CERTIFICATE_LIMIT: usize = 1_073_741_824;
 #[derive(Clone, Copy)]
 pub(crate) struct Voice {
     /// Whether notes of an answer are said.
-    notes: bool,
+    pub notes: bool,
     /// Whether a message explains a fault.
     pub explains: bool,
     /// Whether a line says how far a search is.
@@ -59,12 +60,13 @@ pub(crate) struct Voice {
 
 impl Voice {
     /// What is said for a request, of which some depends on whether standard error is a terminal. `quiet` outdoes all
-    /// else. Whoever writes a test has `test`, `states` and `audit` judge it, so there faults are always explained.
+    /// else. Whoever writes a test has `test`, `states` and `audit` judge it, and to `solve --sites` there are several, so
+    /// there faults are always explained.
     fn of(request: &Request<'_>, is_terminal: bool) -> Voice {
         let notes = !request.quiet;
         let judges = matches!(
             request.task,
-            Task::Test(_) | Task::States(_) | Task::Audit(_)
+            Task::Test(_) | Task::States(_) | Task::Audit(_) | Task::Sites(_)
         );
         Voice {
             notes,
@@ -238,6 +240,7 @@ fn answer<'a, R: Files + Input + Eprint + AllocGlobal + Clock + Threads + Wait +
         Task::Place(place) => answer_place(rt, place, papers),
         Task::Order(order) => answer_order(rt, order, papers),
         Task::Solve(solve) => answer_solve(rt, solve, voice, papers),
+        Task::Sites(sites) => answer_sites(rt, sites, voice, papers),
         Task::Audit(audit) => answer_audit(rt, audit, voice, papers),
         Task::Check(check) => answer_check(rt, check, papers),
         Task::Completions(shell) => Ok(Output {

@@ -186,6 +186,21 @@ With --workers N up to N threads search. The fences are the same for every numbe
 thread begins; the others join it only where many placements are still to be judged once
 it has made its plan, which few tests need.
 
+With --sites FILE stands for one test or several, also folders and @lists as of `test`, and
+fences for the functions of a library are found in place of fences for each hart. A label to
+which no branch goes names a site, a place in a function: lock_0 and lock_1 are copies of
+the site lock. All copies take the same fence, and the fences together rule the outcome of
+each test out. A site's fence is paid once:
+
+  $ rvfence solve examples/sites/ticket-*.litmus examples/prices-linux.json --sites
+  fenced 7
+  site lock r,r
+  site unlock rw,w
+
+Elsewhere no fence is placed. Below `none` stands first the file whose outcome is shown, even
+with rw,rw at every site. --json has sites in place of fences, and the file. PRICES have no
+weights then, and there is no --workers, --cert or --why.
+
 PRICES offers kinds, each for 1 to 1000000, and rw,rw must be one of them, as in
 {\"w,w\":2,\"rw,rw\":10}. Slots may have weights that multiply the price.
 
@@ -373,6 +388,9 @@ const QUIET_HELP: &str = "Say nothing on standard error but a line for what is w
 
 const VERBOSE_HELP: &str = "Explain a fault: where it is, and what was expected";
 
+const SITES_HELP: &str =
+    "Find fences of labelled sites, for all tests given; not with --workers, --cert, --why";
+
 const NODES_HELP: &str = "Most nodes that the search may make, 1 to 1000000";
 
 /// What is read of an option that may have a path and has none. No path has such a byte.
@@ -408,6 +426,7 @@ pub enum Task<'a> {
     Place(Place<'a>),
     Order(Order<'a>),
     Solve(Solve<'a>),
+    Sites(Sites<'a>),
     Audit(Audit<'a>),
     Check(Check<'a>),
     /// To print the script for this shell.
@@ -421,6 +440,7 @@ impl Task<'_> {
             Task::Test(test) => test.json,
             Task::States(states) => states.json,
             Task::Solve(solve) => solve.json,
+            Task::Sites(sites) => sites.json,
             Task::Check(check) => check.json,
             Task::Place(_) | Task::Order(_) | Task::Audit(_) | Task::Completions(_) => false,
         }
@@ -500,6 +520,17 @@ pub struct Solve<'a> {
     pub why: bool,
 }
 
+/// What `solve --sites` was asked for.
+#[derive(Drop)]
+pub struct Sites<'a> {
+    pub files: Vec<String>,
+    pub prices: &'a str,
+    /// How many nodes each plan may make: from 1 to 1,000,000.
+    pub nodes: u32,
+    /// Whether JSON is to be printed.
+    pub json: bool,
+}
+
 /// What `audit` was asked for.
 #[derive(Drop)]
 pub struct Audit<'a> {
@@ -530,16 +561,30 @@ pub struct Check<'a> {
 /// The request that the words make, the program's name first. An error holds the text for the user, and help and the
 /// version are such errors.
 ///
-/// `audit` takes its prices behind its files, also where an option stands between one file and them.
+/// `audit` takes its prices behind its files, also where an option stands between one file and them; so does `solve` with
+/// `--sites`.
 pub fn read_request<'a>(alloc: Global, words: &'a [String]) -> Result<Request<'a>, Error> {
-    let matches = match whole_command(alloc, true)?.try_get_matches_from(words) {
+    let solves_many = asks_for_sites(words);
+    let matches = match whole_command(alloc, true, solves_many)?.try_get_matches_from(words) {
         Ok(matches) => matches,
         Err(error) => matches_of_one(alloc, words, error)?,
     };
     Ok(request_of(alloc, &matches)?)
 }
 
-/// The same where `audit` takes one file, for words that aren't understood otherwise. The error is the first one, but
+/// Is `--sites` one of the words before `--`?
+fn asks_for_sites(words: &[String]) -> bool {
+    for word in words {
+        match word.as_str() {
+            "--" => return false,
+            "--sites" => return true,
+            _ => {}
+        }
+    }
+    false
+}
+
+/// The same where `audit` and `solve` take one file, for words that aren't understood otherwise. The error is the first one, but
 /// where it says that words are missing.
 fn matches_of_one<'a>(
     alloc: Global,
@@ -549,7 +594,7 @@ fn matches_of_one<'a>(
     if !error.use_stderr() {
         return Err(error);
     }
-    match whole_command(alloc, false)?.try_get_matches_from(words) {
+    match whole_command(alloc, false, false)?.try_get_matches_from(words) {
         Ok(matches) => Ok(matches),
         Err(other) if matches!(error.kind(), ErrorKind::MissingRequiredArgument) => Err(other),
         Err(_) => Err(error),
@@ -571,6 +616,7 @@ fn task_of<'a>(alloc: Global, name: &str, found: &ArgMatches<'a>) -> Result<Task
         "test" => Ok(Task::Test(test_of(alloc, found)?)),
         "states" => Ok(Task::States(states_of(alloc, found)?)),
         "order" => Ok(Task::Order(order_of(alloc, found)?)),
+        "solve" if found.get_flag("sites") => Ok(Task::Sites(sites_of(alloc, found)?)),
         "solve" => Ok(Task::Solve(solve_of(found))),
         "audit" => Ok(Task::Audit(audit_of(alloc, found)?)),
         "check" => Ok(Task::Check(check_of(found))),
@@ -666,6 +712,15 @@ fn solve_of<'a>(found: &ArgMatches<'a>) -> Solve<'a> {
     }
 }
 
+fn sites_of<'a>(alloc: Global, found: &ArgMatches<'a>) -> Result<Sites<'a>, AllocError> {
+    Ok(Sites {
+        files: words_of(alloc, found, "FILE")?,
+        prices: found.get_str("PRICES").unwrap_or(""),
+        nodes: found.get_one::<u32>("nodes").unwrap_or(MOST_NODES),
+        json: found.get_flag("json"),
+    })
+}
+
 fn audit_of<'a>(alloc: Global, found: &ArgMatches<'a>) -> Result<Audit<'a>, AllocError> {
     Ok(Audit {
         files: words_of(alloc, found, "FILE")?,
@@ -708,15 +763,19 @@ fn words_of(alloc: Global, found: &ArgMatches<'_>, name: &str) -> Result<Vec<Str
     Ok(words)
 }
 
-/// The program; `audit` takes one file or any number.
-fn whole_command<'a>(alloc: Global, audits_many: bool) -> Result<Command<'a>, AllocError> {
+/// The program; `audit` and `solve` each take one file or any number.
+fn whole_command<'a>(
+    alloc: Global,
+    audits_many: bool,
+    solves_many: bool,
+) -> Result<Command<'a>, AllocError> {
     let program = Command::new(alloc, "rvfence")
         .version(VERSION)
         .about("Fences for RISC-V litmus tests under RVWMO")
         .after_help(PROGRAM_HELP)
         .subcommand_required(true);
     let program = with_command(Ok(program), test_command(alloc));
-    let program = with_command(program, solve_command(alloc));
+    let program = with_command(program, solve_command(alloc, solves_many));
     let program = with_command(program, audit_command(alloc, audits_many));
     let program = with_command(program, states_command(alloc));
     let program = with_command(program, place_command(alloc));
@@ -796,12 +855,13 @@ fn order_command<'a>(alloc: Global) -> Result<Command<'a>, AllocError> {
     with_voice(alloc, command)
 }
 
-fn solve_command<'a>(alloc: Global) -> Result<Command<'a>, AllocError> {
+fn solve_command<'a>(alloc: Global, solves_many: bool) -> Result<Command<'a>, AllocError> {
     let command = Command::new(alloc, "solve")
         .about(SOLVE_ABOUT)
         .after_help(SOLVE_HELP);
-    let command = with_argument(Ok(command), required(alloc, "FILE", FILE_HELP));
+    let command = with_argument(Ok(command), one_or_many(alloc, solves_many));
     let command = with_argument(command, required(alloc, "PRICES", PRICES_HELP));
+    let command = with_argument(command, sites_flag(alloc)?);
     let command = with_argument(command, threads(alloc, "workers", WORKERS_HELP));
     let command = with_argument(command, nodes(alloc, NODES_HELP));
     let command = with_argument(command, option(alloc, "cert", "PATH", CERT_HELP));
@@ -810,16 +870,19 @@ fn solve_command<'a>(alloc: Global) -> Result<Command<'a>, AllocError> {
     with_voice(alloc, command)
 }
 
+/// What asks for fences of sites, which are searched by one thread, and have no certificate.
+fn sites_flag<'a>(alloc: Global) -> Result<Arg<'a>, AllocError> {
+    flag(alloc, "sites", SITES_HELP)
+        .conflicts_with("workers")?
+        .conflicts_with("cert")?
+        .conflicts_with("why")
+}
+
 fn audit_command<'a>(alloc: Global, audits_many: bool) -> Result<Command<'a>, AllocError> {
     let command = Command::new(alloc, "audit")
         .about(AUDIT_ABOUT)
         .after_help(AUDIT_HELP);
-    let taken = if audits_many {
-        files(alloc, FILES_HELP)
-    } else {
-        required(alloc, "FILE", FILE_HELP)
-    };
-    let command = with_argument(Ok(command), taken);
+    let command = with_argument(Ok(command), one_or_many(alloc, audits_many));
     let command = with_argument(command, required(alloc, "PRICES", PRICES_HELP));
     let command = with_argument(command, flag(alloc, "anew", ANEW_HELP));
     let write = flag(alloc, "write", WRITE_HELP).conflicts_with("anew")?;
@@ -852,7 +915,7 @@ fn completions_command<'a>(alloc: Global) -> Result<Command<'a>, AllocError> {
 
 /// The script by which the shell completes the words of a command line. The error is want of memory.
 pub fn completion_script(alloc: Global, shell: Shell) -> Result<String, AllocError> {
-    script(alloc, &whole_command(alloc, true)?, shell)
+    script(alloc, &whole_command(alloc, true, false)?, shell)
 }
 
 /// A word that must be there.
@@ -887,6 +950,15 @@ fn flag<'a>(alloc: Global, name: &'a str, help: &'a str) -> Arg<'a> {
 /// What asks that executions are told, which no JSON has.
 fn telling<'a>(alloc: Global, help: &'a str) -> Result<Arg<'a>, AllocError> {
     flag(alloc, "why", help).conflicts_with("json")
+}
+
+/// One file, or any number.
+fn one_or_many<'a>(alloc: Global, many: bool) -> Arg<'a> {
+    if many {
+        files(alloc, FILES_HELP)
+    } else {
+        required(alloc, "FILE", FILE_HELP)
+    }
 }
 
 /// One word or more.

@@ -5,7 +5,7 @@ mod command;
 mod completions;
 
 pub use command::{
-    Audit, Check, Expectations, MOST_NODES, MOST_WORKERS, Order, Place, Request, Solve, States,
-    Task, Test, completion_script, read_request,
+    Audit, Check, Expectations, MOST_NODES, MOST_WORKERS, Order, Place, Request, Sites, Solve,
+    States, Task, Test, completion_script, read_request,
 };
 pub use completions::Shell;

@@ -1,0 +1,204 @@
+//! What `solve --sites` answers of its files.
+
+ghost use Rattle.std.specs.Prelude.{◌≡◌, List, IfOk, string_bytes};
+ghost use Rattle.fs_app_io.specs.declared.status.Status.TheVariants.{Failure as Failed};
+ghost use Rattle.fs_app_sites.specs.Solved.{IsSolved};
+ghost use Rattle.fs_app_sites.specs.declared.content.File.{File as SitesFile};
+ghost use Rattle.fs_app.specs.Answers.{AnswersSites};
+
+use crate::failure::Failure;
+use crate::program::{Voice, failure_of, refused, report};
+use fs_app_command_line::{MOST_NODES, Sites};
+use fs_app_error_messages::{explain_test, shown_name};
+use fs_app_files::{Paper, Papers, fault_object};
+use fs_app_io::{Output, Source, sources, tell};
+use fs_app_sites::{File, Solved, check_file, check_prices, first_at_fault, run_sites};
+use fs_app_test::{Note, test_file, test_objects};
+use fs_kinds::Fault;
+use std::alloc::{AllocError, Global};
+use std::rt::Files;
+
+/// The most rounds of plan and verdicts.
+const MOST_ROUNDS: usize = 100_000;
+
+/// What is said where no label names a site.
+const NO_SITE: &str = "note: no file has a label that names a site\n";
+
+/// What is said where a place has two sites.
+const TWO_SITES: &str = "two labels before one instruction name sites: write `nop` between them";
+
+/// What `solve --sites` answers of its files. The first file that has a fault ends the run: the fault is said here, with
+/// the name of the file, and nothing but its object is printed.
+pub(crate) fn answer_sites<'a, R: Files + Input + Eprint + AllocGlobal>(
+    rt: &R,
+    sites: &'a Sites<'a>,
+    voice: Voice,
+    papers: &mut Papers<'a>,
+) -> Result<Output, Fault>
+    ensures { IfOk result (AnswersSites sites.now papers.new) }
+{
+    papers.read_prices(rt, sites.prices)?;
+    check_prices(rt.alloc(), &papers.prices.bytes)?;
+    let sources = sources(rt, &sites.files)?;
+    let mut blamed = Papers::new(rt.alloc());
+    match solved(rt, sites, &sources, &papers.prices.bytes, &mut blamed) {
+        Ok(solved) => Ok(noted(rt, voice, solved)),
+        Err(fault) => failed(rt, sites.json, fault, voice, &blamed),
+    }
+}
+
+/// The output. That no label names a site is said on standard error.
+fn noted<R: Files + Eprint + AllocGlobal>(rt: &R, voice: Voice, solved: Solved) -> Output
+    ensures { result ≡ solved.output }
+{
+    if solved.sites == 0 && voice.notes {
+        tell(rt, &NO_SITE);
+    }
+    solved.output
+}
+
+/// What is answered. Where there is a fault the file that has it is left in `blamed`.
+fn solved<'b, R: Files + Input + AllocGlobal>(
+    rt: &R,
+    sites: &Sites<'_>,
+    sources: &'b [Source],
+    prices: &[u8],
+    blamed: &mut Papers<'b>,
+) -> Result<Solved, Fault>
+    ensures { IfOk result (λ solved. (files : List SitesFile)
+        × IsSolved sites.now.json files prices.now (string_bytes solved.output.text) solved.output.status) }
+{
+    let files = read_files(rt, sources, blamed)?;
+    let limit = sites.nodes.clamp(1, MOST_NODES) as usize;
+    match run_sites(rt.alloc(), &files, prices, sites.json, MOST_ROUNDS, limit) {
+        Ok(solved) => Ok(solved),
+        Err(fault) => {
+            blame(rt.alloc(), sources, &files, prices, fault, blamed)?;
+            Err(fault)
+        }
+    }
+}
+
+/// The files, each read and checked before the next one, so that the first fault is that of the first file.
+fn read_files<'b, R: Files + Input + AllocGlobal>(
+    rt: &R,
+    sources: &'b [Source],
+    blamed: &mut Papers<'b>,
+) -> Result<Vec<File>, Fault> {
+    let mut files = Vec::new(rt.alloc());
+    for source in sources {
+        blamed.read_source(rt, source)?;
+        check_file(rt.alloc(), &blamed.test.bytes)?;
+        files.push(copied(rt.alloc(), &blamed.test)?)?;
+    }
+    Ok(files)
+}
+
+fn copied(alloc: Global, paper: &Paper<'_>) -> Result<File, AllocError> {
+    Ok(File {
+        name: String::from_str(alloc, paper.name)?,
+        bytes: Vec::from_slice(alloc, &paper.bytes)?,
+    })
+}
+
+/// Leaves in `blamed` the file to which a fault of the search is due, and nothing where it is due to none.
+fn blame<'b>(
+    alloc: Global,
+    sources: &'b [Source],
+    files: &[File],
+    prices: &[u8],
+    fault: Fault,
+    blamed: &mut Papers<'b>,
+) -> Result<(), Fault> {
+    *blamed = Papers::new(alloc);
+    if matches!(fault, Fault::Memory | Fault::NodeLimit) {
+        return Ok(());
+    }
+    if let Some(number) = first_at_fault(alloc, files, prices, fault) {
+        if let (Some(source), Some(file)) = (sources.get(number), files.get(number)) {
+            blamed.test = Paper {
+                name: source.name.as_str(),
+                bytes: Vec::from_slice(alloc, &file.bytes)?,
+            };
+        }
+    }
+    Ok(())
+}
+
+/// Says the fault of a file, and answers its object where JSON is asked for.
+fn failed<R: Files + Eprint + AllocGlobal>(
+    rt: &R,
+    is_json: bool,
+    fault: Fault,
+    voice: Voice,
+    blamed: &Papers<'_>,
+) -> Result<Output, Fault>
+    ensures { IfOk result (λ output. output.status ≡ Failed) }
+{
+    if fault == Fault::Memory {
+        return Err(fault);
+    }
+    report(rt, &failure_of_file(rt.alloc(), fault, voice, blamed));
+    let mut output = refused(rt.alloc());
+    if is_json {
+        if let Some(object) = object_of(rt.alloc(), fault, blamed)? {
+            output.text.push_str(object.as_str())?;
+        }
+    }
+    Ok(output)
+}
+
+/// The line, where it is that of a second site label at a place: of such a fault the test itself knows nothing.
+fn clash_of(alloc: Global, fault: Fault, blamed: &Papers<'_>) -> Option<usize> {
+    let Fault::BadLabel { line } = fault else {
+        return None;
+    };
+    match explain_test(alloc, blamed.test.name, &blamed.test.bytes) {
+        Ok(None) => Some(line),
+        _ => None,
+    }
+}
+
+/// The failure of a run that a fault of this file ended, or of the search, of which no file is named.
+fn failure_of_file(alloc: Global, fault: Fault, voice: Voice, blamed: &Papers<'_>) -> Failure {
+    if !voice.explains {
+        return failure_of(alloc, fault, voice, blamed);
+    }
+    if let Some(line) = clash_of(alloc, fault, blamed) {
+        return match clash_text(alloc, fault, line, blamed.test.name) {
+            Ok(message) => Failure::Told(fault, message),
+            Err(_) => Failure::NoAnswer(fault),
+        };
+    }
+    if blamed.test.name.is_empty() && fault != Fault::ReadFault {
+        return Failure::NoAnswer(fault);
+    }
+    failure_of(alloc, fault, voice, blamed)
+}
+
+/// The message of a second site label at a place.
+fn clash_text(alloc: Global, fault: Fault, line: usize, name: &str) -> Result<String, AllocError> {
+    let name = shown_name(alloc, name)?;
+    format!(in alloc; "{}:{}: {}\n  {}\n", name.as_str(), line, fault, TWO_SITES)
+}
+
+/// The object of a fault.
+fn object_of(alloc: Global, fault: Fault, blamed: &Papers<'_>) -> Result<Option<String>, Fault> {
+    match clash_of(alloc, fault, blamed) {
+        Some(line) => Ok(Some(clash_object(alloc, fault, line, blamed.test.name)?)),
+        None => fault_object(alloc, fault, blamed),
+    }
+}
+
+/// That of a second site label at a place.
+fn clash_object(alloc: Global, fault: Fault, line: usize, name: &str) -> Result<String, Fault> {
+    let mut said = test_file(alloc, name, Err(fault))?;
+    said.note = Some(Note {
+        line: Some(line),
+        column: None,
+        message: String::from_str(alloc, TWO_SITES)?,
+    });
+    let mut lines = Vec::new(alloc);
+    lines.push(said)?;
+    Ok(test_objects(alloc, &lines, false)?.text)
+}

@@ -1,0 +1,3 @@
+pub mod Sites
+pub mod Printed
+pub mod Solved

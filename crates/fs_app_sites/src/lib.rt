@@ -1,0 +1,14 @@
+//! What `solve --sites` answers, from the bytes of tests whose labels name sites to the text that is printed: one fence
+//! for a site in all its copies, so that no test's outcome is left.
+#![tactic(auto)]
+
+mod content;
+mod names;
+mod prices;
+mod question;
+mod report;
+mod solve;
+
+pub use content::{File, check_file};
+pub use prices::check_prices;
+pub use solve::{Solved, first_at_fault, run_sites};

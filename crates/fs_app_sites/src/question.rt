@@ -1,0 +1,139 @@
+//! The question that files and prices ask.
+
+ghost use Rattle.std.specs.Prelude.{◌≡◌, ◌≤◌, ◌<◌, map, length, string_bytes, IfOk, All, true, IsOkUnless};
+ghost use Rattle.std.specs.List.{range_with_len};
+ghost use Rattle.fs_kinds.specs.PriceTable.{IsPriceTable};
+ghost use Rattle.fs_kinds.specs.Slot.{is_rising};
+ghost use Rattle.fs_kinds.specs.declared.fault.Fault.TheVariants.{Memory};
+ghost use Rattle.fs_model.specs.Test.{IsTest};
+ghost use Rattle.fs_app_sites.specs.Sites.{AreSound, copy_value, key, offer_of, part_of, place_of, question_of};
+ghost use Rattle.fs_app_sites.specs.Sites.{most_sites, places_of};
+
+use crate::content::{Content, SiteCopy};
+use crate::names::number_of;
+use fs_board_offers::{Offer, Offers};
+use fs_kinds::{Fault, Kind, List, Prices, Slot};
+use fs_sites::{Part, Place, Question};
+use std::alloc::{AllocError, Global};
+use std::sync::Arc;
+
+/// So many sites have a key of their own.
+pub(crate) const MOST_SITES: usize = 65_536;
+
+/// The key of a site by its number, which is a name only: keys rise as numbers do.
+fn key(number: usize) -> Slot
+    requires { number < most_sites }
+    ensures { result ≡ key number }
+{
+    Slot {
+        hart: (number / 256) as u8,
+        at: (number % 256) as u8,
+    }
+}
+
+/// At a site each kind that has a price, for this price.
+fn offer_of(prices: &Prices, number: usize) -> Offer
+    requires { number < most_sites }
+    ensures { result ≡ offer_of prices.now number }
+{
+    Offer {
+        slot: key(number),
+        costs: [
+            prices.of(Kind::RR),
+            prices.of(Kind::RW),
+            prices.of(Kind::RRw),
+            prices.of(Kind::WR),
+            prices.of(Kind::WW),
+            prices.of(Kind::WRw),
+            prices.of(Kind::RwR),
+            prices.of(Kind::RwW),
+            prices.of(Kind::RwRw),
+            prices.of(Kind::Tso),
+        ],
+        written: None,
+    }
+}
+
+/// What may stand at so many sites.
+fn offer_list(alloc: Global, prices: &Prices, sites: usize) -> Result<Vec<Offer>, AllocError>
+    requires { sites ≤ most_sites }
+    ensures { IfOk result (λ offers. offers.items ≡ map (offer_of prices.now) (range_with_len 0 sites)) }
+{
+    (0..sites)
+        .map(|number| offer_of(prices, number))
+        .collect(alloc)
+}
+
+/// The same, in the order of the sites' keys.
+fn offers_of(alloc: Global, prices: &Prices, sites: usize) -> Result<Offers, AllocError>
+    requires { sites ≤ most_sites }
+    ensures value { IfOk result (λ offers. offers ≡ map (offer_of prices.now) (range_with_len 0 sites)) }
+    ensures table { IsPriceTable prices.now }
+{
+    let _table = prices.of(Kind::RwRw);
+    let offers = offer_list(alloc, prices, sites)?;
+    Ok(Offers::new(offers))
+}
+
+/// The place of a copy, whose site has one of these names.
+fn place_of(names: &[String], copy: &SiteCopy) -> Place
+    ensures { result ≡ place_of (map string_bytes names.now) (copy_value copy.now) }
+{
+    Place {
+        slot: copy.slot,
+        site: number_of(names, copy.name.as_str()).unwrap_or(0),
+    }
+}
+
+/// The places of copies.
+fn places_of(alloc: Global, names: &[String], copies: &[SiteCopy]) -> Result<Vec<Place>, AllocError>
+    ensures { IfOk result (λ places. places.items
+        ≡ places_of (map string_bytes names.now) (map copy_value copies.now)) }
+{
+    copies
+        .iter()
+        .map(|copy| place_of(names, copy))
+        .collect(alloc)
+}
+
+/// The part of a file in the question.
+fn part_of(alloc: Global, names: &[String], content: &Content) -> Result<Part, AllocError>
+    ensures { IfOk result (λ part. part ≡ part_of (map string_bytes names.now) content.now) }
+{
+    Ok(Part {
+        test: Arc::try_clone(&content.test)?,
+        places: List::new(places_of(alloc, names, &content.copies)?),
+    })
+}
+
+/// The parts of all files.
+fn parts_of(alloc: Global, names: &[String], contents: &[Content]) -> Result<Vec<Part>, AllocError>
+    ensures { IfOk result (λ parts. parts.items ≡ map (part_of (map string_bytes names.now)) contents.now) }
+{
+    let mut parts = Vec::new(alloc);
+    for content in contents {
+        parts.push(part_of(alloc, names, content)?)?;
+    }
+    Ok(parts)
+}
+
+/// The question of files that hold this, with sites of these names, at these prices. The error is F19.
+pub(crate) fn question_of(
+    alloc: Global,
+    contents: &[Content],
+    names: &[String],
+    prices: &Prices,
+) -> Result<Question, Fault>
+    requires { length names.now ≤ most_sites }
+    ensures value { IfOk result (λ q. q ≡ question_of prices.now (map string_bytes names.now) contents.now) }
+    ensures table { IsPriceTable prices.now }
+    ensures err { IsOkUnless result Memory }
+{
+    let _table = prices.of(Kind::RwRw);
+    let parts = parts_of(alloc, names, contents)?;
+    let offers = offers_of(alloc, prices, names.len())?;
+    Ok(Question {
+        parts: List::new(parts),
+        offers,
+    })
+}
