@@ -9,7 +9,6 @@ import functools
 import itertools
 import json
 import random
-import re
 
 import check_certificate as model
 import solve_reference as reference
@@ -30,7 +29,9 @@ class Test:
         top = 1 + next(number for number, line in enumerate(lines) if line.startswith("P0"))
         self.above, self.condition = lines[:top], lines[-1]
         rows = [line.removesuffix(" ;").split(" | ") for line in lines[top:-1]]
-        self.columns = [[cell.strip() for cell in column if cell.strip()] for column in zip(*rows)]
+        columns = [[cell.strip() for cell in column if cell.strip()] for column in zip(*rows)]
+        # a label to which no branch goes would name a site
+        self.columns = [column if any(cell.endswith(",OUT") for cell in column) else column[:-1] for column in columns]
         spots = [(hart, at) for hart, column in enumerate(self.columns) for at in range(len(column))]
         density = chance.choice([0.3, 0.7, 0.9, 1])
         self.places = {spot: chance.choice(names) for spot in spots if chance.random() < density}
@@ -132,7 +133,7 @@ def compare(run, number):
     listed = written(f"{run.folder}/prices", json.dumps(prices).encode())
     found, wanted = rvfence("solve", *files, listed, "--sites"), answer_of(tests, names, prices)
     name = f"question {number}"
-    run.kinds["none" if wanted is None else re.sub(r"\d+$", "0", wanted.split("\n")[0])] += 1
+    run.kinds["none" if wanted is None else "fenced"] += 1
     if wanted is None:
         compare_none(run, name, tests, files, found)
     elif not run.expect(name, (wanted, "", 0), (found.out, found.err, found.status)):
