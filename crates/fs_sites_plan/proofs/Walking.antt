@@ -47,10 +47,28 @@ module _ (offers : Offers) (are : AreOffers offers) where
       let fill = fills-behind n offers q (fills offers q are.rising is) in
       subst (IsAtMost least) (sym (split-cost cursor q is with)) (bound rest fill (ap (breaks_all bars) whole ∙ breaks))
 
-  no-less : (best : Option (List Entry)) (least : ℕ) (q : List Entry)
-      → IfSome best (λ p. cost offers p ≤ least) → (best ≡ None → ⊥) → IsAtMost (Some least) (cost offers q) → CostsNoLess offers best q
-  no-less None least q low some bound = some refl
-  no-less (Some p) least q low some bound = omega (arith, low, bound)
+  -- the best placement costs no more than the bound; where there is no bound nothing is left
+  abbrev pub IsDear : (best : Option (List Entry)) → Option ℕ → Type 0
+  IsDear best None = Unit {0}
+  IsDear None (Some least) = ⊥
+  IsDear (Some p) (Some least) = cost offers p ≤ least
+
+  no-less : (best : Option (List Entry)) (least : Option ℕ) (q : List Entry) → IsDear best least → IsAtMost least (cost offers q)
+      → CostsNoLess offers best q
+  no-less best None q dear bound = absurd bound
+  no-less None (Some least) q dear bound = dear
+  no-less (Some p) (Some least) q dear bound = omega (arith, dear, bound)
+
+  pub closes : (bars : List (List Pairs)) (cursor : List Entry) (best : Option (List Entry)) (least : Option ℕ) (paid_there : ℕ) (us : List Offer)
+      → us ≡ offers → paid_there ≡ cost offers cursor
+      → ((rest : List Entry) → Fills (drop (length cursor) us) rest → breaks_all bars (cursor ++ rest) ≡ true
+      → IsAtMost least (paid_there + paid (drop (length cursor) us) rest))
+      → IsDear best least → Closes offers bars best cursor
+  closes bars cursor best least paid_there us same paid_is bound dear q is with breaks =
+      no-less best least q dear (bounded bars cursor least (λ rest fill breaking.
+          let u = subst (λ (os : List Offer). Fills (drop (length cursor) os) rest) (sym same) fill in
+          subst (λ (os : List Offer). IsAtMost least (cost offers cursor + paid (drop (length cursor) os) rest)) same
+          (subst (λ (n : ℕ). IsAtMost least (n + paid (drop (length cursor) us) rest)) paid_is (bound rest u breaking))) q is with breaks)
 
   -- ---- the order
 

@@ -1,10 +1,10 @@
 //! What placements that begin with what is decided and break all bars cost at least.
 
-ghost use Rattle.std.specs.Prelude.{◌≡◌, ◌+◌, ◌≤◌, true, false, IfOk, IfSome, IsTrue, List, ◌++◌, option_map};
+ghost use Rattle.std.specs.Prelude.{◌≡◌, ◌+◌, ◌≤◌, true, false, IfOk, IfSome, IsTrue, List, ◌++◌, length, option_map};
 ghost use Rattle.fs_kinds.specs.declared.placement.Entry.{Entry as EntryValue};
 ghost use Rattle.fs_board_offers.specs.Breaks.{break_cost, least_of};
 ghost use Rattle.fs_sites_plan.specs.Plans.{is_within, breaks_all};
-ghost use Rattle.fs_sites_plan.specs.Sinking.{Fills, Begins, paid, least_in, sunk_price, sunk_offer, sunk, IsAtMost, HasPaid};
+ghost use Rattle.fs_sites_plan.specs.Sinking.{Fills, paid, least_in, sunk_price, sunk_offer, sunk, IsAtMost, HasPaid};
 ghost use Rattle.fs_sites_plan.specs.Walks.{Closes};
 
 use crate::bars::{fits, unbroken_rest};
@@ -157,7 +157,7 @@ pub(crate) fn is_closed(
     decided: &[Entry],
     best: Option<&Placement>,
 ) -> Result<bool, AllocError>
-    requires { Begins offers.now decided.now }
+    requires { length decided.now ≤ length offers.now }
     ensures { IfOk result (λ closed. IsTrue closed
         → Closes offers.now bars.now (option_map (λ p. p.now) best.entry) decided.now) }
 {

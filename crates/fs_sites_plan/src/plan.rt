@@ -1,6 +1,6 @@
 //! Finds the first of the cheapest placements that break all bars.
 
-ghost use Rattle.std.specs.Prelude.{◌≢◌, ◌⊎◌, ◌≡◌, ℕ, IsTrue, IfOk, IfErr, IfSome, MatchOption, IsOkUnless, None, length, option_map};
+ghost use Rattle.std.specs.Prelude.{◌≢◌, ◌⊎◌, ◌≡◌, ℕ, IsTrue, IfOk, IfErr, IfSome, MatchOption, IsOkUnless, false, None, length, option_map};
 ghost use Rattle.fs_kinds.specs.declared.fault.Fault.TheVariants.{Memory, NodeLimit};
 ghost use Rattle.fs_kinds.specs.Slot.{is_rising};
 ghost use Rattle.fs_kinds.specs.Placement.{slots_of, has_slot, with_kind};
@@ -98,6 +98,7 @@ fn with_this(
     ensures ok { IfOk result (IsBestWith offers.now bars.now cursor.now) }
     ensures err { IsOkUnless result Fault.Memory }
 {
+    let _are = offers.as_slice();
     if breaks_all(bars, cursor) && is_cheaper(offers, cursor, best.as_ref()) {
         Ok(Some(placement_of(alloc, offers, cursor)?))
     } else {
