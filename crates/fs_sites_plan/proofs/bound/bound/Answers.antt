@@ -19,8 +19,8 @@ loop-number-preserved c rest fills breaks =
     take_at c.pay.new.offers _ c.loop-number.offers.len long in
     subst (λ (us : List Offer). Fills us rest × (c.saturating_add-least.result + paid us rest ≤ c.args.cost + paid c.args.undecided.now rest)) (sym whole) (
       paid_here.0,
-      paid-more c.loop-number.least c.in-Some-pay.paid _ c.saturating_add-least.result (paid c.loop-number.offers.items rest)
+      paid-more c.loop-number.least c.in-Some-pay.paid 340282366920938463463374607431768211455 c.saturating_add-least.result (paid c.loop-number.offers.items rest)
           (paid c.pay.new.offers rest) c.args.cost (paid c.args.undecided.now rest)
-          (c.saturating_add-least.ensures ∙ ap (λ n. min (c.loop-number.least + n) _) c.from.ensures)
+          (c.saturating_add-least.ensures ∙ ap (λ n. min (c.loop-number.least + n) 340282366920938463463374607431768211455) c.from.ensures)
           (subst (λ (us : List Offer). c.in-Some-pay.paid + paid c.pay.new.offers rest ≤ paid us rest) value paid_here.1) so_far.1,
     )

@@ -1,18 +1,20 @@
-use Rattle.std.proofs.Common.{◌≡◌, ◌≤◌, List, option_map, subst, sym, ap}
+use Rattle.std.proofs.Common.{◌≡◌, ◌≤◌, ◌∙◌, ℕ, Some, option_map, subst, sym, ap}
+use Rattle.std.proofs.lemmas.Bool.{leb-true}
+use Rattle.fs_board_offers.specs.Offers.{cost}
 use Rattle.fs_sites_plan.proofs.Walking.{closes, IsDear}
 use Rattle.fs_sites_plan.proofs.bound.is_closed.Goals as goal
 
 pub returns-in-None-default : goal.returns-in-None-default
-returns-in-None-default c yes =
-    let b = c.in_ok-least.ensures in
-    let a = c.as_slice.ensures.are in
-    let i = c.in-None-default.is-0 in
-    ?
+returns-in-None-default c closed =
+    closes c.args.offers.now c.as_slice.ensures.are c.args.bars.now c.args.decided.now _ c.in_ok-least.least c.cost.result c.as_slice.result.now
+    c.as_slice.ensures.value c.cost.ensures.value c.in_ok-least.ensures (rw c.in-None-default.is-0 tt)
 
 pub returns-in-Some-Some : goal.returns-in-Some-Some
-returns-in-Some-Some c yes =
-    let i = c.in-Some-Some.is-0 in
-    let j = c.in-Some-Some.is-1 in
-    let s = c.as_slice-in-Some-Some.ensures.entries in
-    let k = c.cost-in-Some-Some.ensures.value in
-    ?
+returns-in-Some-Some c closed =
+    let offers = c.args.offers.now in
+    let same : c.cost-in-Some-Some.result ≡ cost offers c.in-Some-Some.best.now =
+    c.cost-in-Some-Some.ensures.value ∙ ap (cost offers) c.as_slice-in-Some-Some.ensures.entries in
+    let low : cost offers c.in-Some-Some.best.now ≤ c.in-Some-Some.least =
+    subst (λ (n : ℕ). n ≤ c.in-Some-Some.least) same (leb-true c.cost-in-Some-Some.result c.in-Some-Some.least closed) in
+    closes offers c.as_slice.ensures.are c.args.bars.now c.args.decided.now _ c.in_ok-least.least c.cost.result c.as_slice.result.now
+    c.as_slice.ensures.value c.cost.ensures.value c.in_ok-least.ensures (rw (c.in-Some-Some.is-0, c.in-Some-Some.is-1) low)
