@@ -59,16 +59,15 @@ module _ (offers : Offers) (are : AreOffers offers) where
   no-less None (Some least) q dear bound = dear
   no-less (Some p) (Some least) q dear bound = omega (arith, dear, bound)
 
-  pub closes : (bars : List (List Pairs)) (cursor : List Entry) (best : Option (List Entry)) (least : Option ℕ) (paid_there : ℕ) (us : List Offer)
-      → us ≡ offers → paid_there ≡ cost offers cursor
-      → ((rest : List Entry) → Fills (drop (length cursor) us) rest → breaks_all bars (cursor ++ rest) ≡ true
-      → IsAtMost least (paid_there + paid (drop (length cursor) us) rest))
+  pub closes : (bars : List (List Pairs)) (cursor : List Entry) (best : Option (List Entry)) (least : Option ℕ) (paid_there : ℕ) (left : List Offer)
+      → left ≡ drop (length cursor) offers → paid_there ≡ cost offers cursor
+      → ((rest : List Entry) → Fills left rest → breaks_all bars (cursor ++ rest) ≡ true → IsAtMost least (paid_there + paid left rest))
       → IsDear best least → Closes offers bars best cursor
-  closes bars cursor best least paid_there us same paid_is bound dear q is with breaks =
+  closes bars cursor best least paid_there left same paid_is bound dear q is with breaks =
       no-less best least q dear (bounded bars cursor least (λ rest fill breaking.
-          let u = subst (λ (os : List Offer). Fills (drop (length cursor) os) rest) (sym same) fill in
-          subst (λ (os : List Offer). IsAtMost least (cost offers cursor + paid (drop (length cursor) os) rest)) same
-          (subst (λ (n : ℕ). IsAtMost least (n + paid (drop (length cursor) us) rest)) paid_is (bound rest u breaking))) q is with breaks)
+          let there = bound rest (subst (λ (os : List Offer). Fills os rest) (sym same) fill) breaking in
+          subst (λ (os : List Offer). IsAtMost least (cost offers cursor + paid os rest)) same
+          (subst (λ (n : ℕ). IsAtMost least (n + paid left rest)) paid_is there)) q is with breaks)
 
   -- ---- the order
 
@@ -213,3 +212,9 @@ module _ (offers : Offers) (are : AreOffers offers) where
       better = λ q placement better. false_from_ne_true (breaks_all bars q) (λ breaks.
           true≢false (sym better ∙ is.none_better q placement breaks (end q (fills offers q are.rising placement))));
     }
+
+    pub deeper : (cursor new : List Entry) (s : Slot) (e : Entry) (best : Option (List Entry)) → new ≡ cursor ++ (e ∷ []) → e ≡ entry_of s None
+        → length cursor < length offers → IsBestBefore offers bars cursor best → IsBestBefore offers bars new best
+    deeper cursor new s e best grown empty short is =
+        subst (λ (p : List Entry). IsBestBefore offers bars p best) (sym (grown ∙ ap (λ f. cursor ++ (f ∷ [])) empty))
+        (with-none cursor s best short is)

@@ -1,6 +1,6 @@
 //! What placements that begin with what is decided and break all bars cost at least.
 
-ghost use Rattle.std.specs.Prelude.{◌≡◌, ◌+◌, ◌≤◌, true, false, IfOk, IfSome, IsTrue, List, ◌++◌, length, option_map};
+ghost use Rattle.std.specs.Prelude.{◌≡◌, ◌+◌, ◌≤◌, true, false, IfOk, IfSome, IsTrue, List, ◌++◌, length, option_copied};
 ghost use Rattle.fs_kinds.specs.declared.placement.Entry.{Entry as EntryValue};
 ghost use Rattle.fs_board_offers.specs.Breaks.{break_cost, least_of};
 ghost use Rattle.fs_sites_plan.specs.Plans.{is_within, breaks_all};
@@ -159,7 +159,7 @@ pub(crate) fn is_closed(
 ) -> Result<bool, AllocError>
     requires { length decided.now ≤ length offers.now }
     ensures { IfOk result (λ closed. IsTrue closed
-        → Closes offers.now bars.now (option_map (λ p. p.now) best.entry) decided.now) }
+        → Closes offers.now bars.now (option_copied best.entry) decided.now) }
 {
     let undecided = &offers.as_slice()[decided.len()..];
     let least = bound(alloc, undecided, bars, order, decided, cost(offers, decided))?;

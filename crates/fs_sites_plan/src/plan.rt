@@ -1,6 +1,6 @@
 //! Finds the first of the cheapest placements that break all bars.
 
-ghost use Rattle.std.specs.Prelude.{◌≢◌, ◌≡◌, ◌<◌, ◌≤◌, IsTrue, IfOk, IfErr, MatchOption, IsOkUnless, false, None, length, option_map};
+ghost use Rattle.std.specs.Prelude.{◌≢◌, ◌≡◌, ◌<◌, ◌≤◌, IsTrue, IfOk, IfErr, MatchOption, IsOkUnless, false, None, length, option_copied};
 ghost use Rattle.fs_kinds.specs.declared.fault.Fault.TheVariants.{Memory, NodeLimit};
 ghost use Rattle.fs_kinds.specs.Placement.{has_slot, with_kind};
 ghost use Rattle.fs_board_offers.specs.Offers.{IsPlacement};
@@ -73,8 +73,8 @@ fn order_of(
 
 /// Does the placement cost less than the best one, or is there none?
 fn is_cheaper(offers: &Offers, placement: &[Entry], best: Option<&Placement>) -> bool
-    ensures yes { IsTrue result → CostsLess offers.now (option_map (λ p. p.now) best.entry) placement.now }
-    ensures no { result ≡ false → CostsNoLess offers.now (option_map (λ p. p.now) best.entry) placement.now }
+    ensures yes { IsTrue result → CostsLess offers.now (option_copied best.entry) placement.now }
+    ensures no { result ≡ false → CostsNoLess offers.now (option_copied best.entry) placement.now }
 {
     match best {
         None => true,
@@ -164,7 +164,9 @@ pub fn first_breaking(
         best = found;
         if !is_seen {
             cursor.push(empty_at(&sites[cursor.len()]))?;
-        } else if !advance(sites, &mut cursor)? {
+            continue;
+        }
+        if !advance(sites, &mut cursor)? {
             return Ok(best);
         }
     }
