@@ -15,6 +15,10 @@ use Rattle.fs_sites_plan.proofs.Reaching.{before-next, reached-last}
 pub its-offer : (offers : Offers) (i : ℕ) (o : Offer) → i < length offers → o ≡ get_or offers i o → slice_get offers i ≡ Some o
 its-offer offers i o low is = slice_get-get_or offers i o low ∙ ap (λ u. Some u) (sym is)
 
+pub one-longer : (p : List Entry) (e : Entry) → length (p ++ (e ∷ [])) ≡ length p + 1
+one-longer [] e = omega arith
+one-longer (f ∷ p) e = let more = one-longer p e in omega (arith, more)
+
 module _ (offers : Offers) (first old cursor : List Entry) (e : Entry) (o : Offer) where
   pub begins-before : old ≡ cursor ++ (e ∷ []) → Begins offers old → Begins offers cursor
   begins-before is begins = begins-less offers cursor e (subst (Begins offers) is begins)
