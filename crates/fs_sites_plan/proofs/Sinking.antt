@@ -1,5 +1,5 @@
 -- A bar that is broken is paid for: what is left to pay sinks by as much.
-use Rattle.std.proofs.Common.{◌≡◌, ℕ, zero, suc, ◌+◌, ◌-◌, ◌≤◌, Bool, true, false, ◌&&◌, not, Option, None, Some, is_some, unwrap_or, option_map, List, [], ◌∷◌, ◌++◌, map, length, take, set, get_or, ◌<◌, refl, sym, ap, ap₂, subst, ◌∙◌, arith}
+use Rattle.std.proofs.Common.{◌≡◌, ℕ, zero, suc, ◌+◌, ◌-◌, ◌≤◌, Bool, true, false, ◌&&◌, not, Option, None, Some, is_some, unwrap_or, option_map, List, [], ◌∷◌, ◌++◌, length, take, set, get_or, ◌<◌, refl, sym, ap, ap₂, subst, ◌∙◌, arith}
 use Rattle.std.specs.Prelude.{if◌then◌else◌, slice_get, min}
 use Rattle.std.proofs.lemmas.Bool.{and_parts, false≢true, true≢false}
 use Rattle.std.proofs.lemmas.List.{take_all}
@@ -9,7 +9,7 @@ use Rattle.fs_kinds.specs.declared.placement.Entry.{Entry}
 use Rattle.fs_kinds.specs.Placement.{rank}
 use Rattle.fs_cert_evidence.specs.declared.evidence.Pairs.{Pairs}
 use Rattle.fs_board_offers.specs.Offers.{Offer, price_of, is_offered, kind_cost}
-use Rattle.fs_board_offers.specs.Breaks.{fits, is_break, break_cost, lesser_of, least_of, all_options}
+use Rattle.fs_board_offers.specs.Breaks.{fits, break_cost, lesser_of, least_of, all_options}
 use Rattle.fs_board_offers.specs.Pruning.{lesser}
 use Rattle.fs_sites_plan.specs.Plans.{is_within, breaks_all}
 use Rattle.fs_sites_plan.specs.Sinking.{Fills, paid, unbroken_rest, least_in, sunk_price, sunk_offer, sunk, IsAtMost}

@@ -1,6 +1,6 @@
 -- What a walk has found stays right as its cursor moves.
-use Rattle.std.proofs.Common.{◌≡◌, ◌⊎◌, ℕ, ◌+◌, ◌<◌, ◌≤◌, ◌==◌, Bool, true, false, ◌&&◌, ◌||◌, Option, None, Some, List, [], ◌∷◌, ◌++◌, length, take, drop, inl, inr, refl, sym, ap, ap₂, subst, ◌∙◌, arith}
-use Rattle.std.specs.Prelude.{IfSome, MatchOption, slice_get}
+use Rattle.std.proofs.Common.{◌≡◌, ◌⊎◌, ℕ, ◌+◌, ◌<◌, ◌≤◌, Bool, true, false, Option, None, Some, List, [], ◌∷◌, ◌++◌, length, take, drop, inl, inr, sym, ap, ap₂, subst, ◌∙◌, arith}
+use Rattle.std.specs.Prelude.{IfSome, MatchOption}
 use Rattle.std.proofs.lemmas.Bool.{false≢true, true≢false, false_from_ne_true}
 use Rattle.std.proofs.lemmas.List.{take-append-drop, take_all}
 use Rattle.std.proofs.lemmas.List.Sums.{sum_by-append}
@@ -9,7 +9,7 @@ use Rattle.fs_kinds.specs.declared.slot.Slot.{Slot}
 use Rattle.fs_kinds.specs.Placement as kinds
 use Rattle.fs_cert_evidence.specs.declared.evidence.Pairs.{Pairs}
 use Rattle.fs_model_laws.proofs.Ranked.{first-cases, first-less, order, entry_of}
-use Rattle.fs_board_offers.specs.Offers.{Offer, Offers, AreOffers, slots, entry_cost, cost, precedes, is_better, IsPlacement}
+use Rattle.fs_board_offers.specs.Offers.{Offer, Offers, AreOffers, entry_cost, cost, precedes, is_better, IsPlacement}
 use Rattle.fs_board_offers.specs.Bounds.{IsNoBetter}
 use Rattle.fs_board_offers.proofs.Ranked.{not_before_itself, before-transitive, better-irreflexive}
 use Rattle.fs_sites_plan.specs.Plans.{ArePlain, breaks_all, IsFirstBreaking, NoneBreaks}
@@ -65,9 +65,9 @@ module _ (offers : Offers) (are : AreOffers offers) where
       → IsDear best least → Closes offers bars best cursor
   closes bars cursor best least paid_there left same paid_is bound dear q is with breaks =
       no-less best least q dear (bounded bars cursor least (λ rest fill breaking.
-          let there = bound rest (subst (λ (os : List Offer). Fills os rest) (sym same) fill) breaking in
-          subst (λ (os : List Offer). IsAtMost least (cost offers cursor + paid os rest)) same
-          (subst (λ (n : ℕ). IsAtMost least (n + paid left rest)) paid_is there)) q is with breaks)
+      let there = bound rest (subst (λ (os : List Offer). Fills os rest) (sym same) fill) breaking in
+      subst (λ (os : List Offer). IsAtMost least (cost offers cursor + paid os rest)) same
+      (subst (λ (n : ℕ). IsAtMost least (n + paid left rest)) paid_is there)) q is with breaks)
 
   -- ---- the order
 

@@ -32,7 +32,10 @@ fn least_of(offer: &Offer, pairs: Pairs, kinds: &[Option<Kind>]) -> Option<u32>
     let [kind, kinds @ ..] = kinds else {
         return None;
     };
-    lesser(break_cost(offer, pairs, *kind), least_of(offer, pairs, kinds))
+    lesser(
+        break_cost(offer, pairs, *kind),
+        least_of(offer, pairs, kinds),
+    )
 }
 
 /// What the cheapest way costs to break the bar at one of these sites. It calls itself once for each site.
@@ -162,7 +165,14 @@ pub(crate) fn is_closed(
         → Closes offers.now bars.now (option_copied best.entry) decided.now) }
 {
     let undecided = &offers.as_slice()[decided.len()..];
-    let least = bound(alloc, undecided, bars, order, decided, cost(offers, decided))?;
+    let least = bound(
+        alloc,
+        undecided,
+        bars,
+        order,
+        decided,
+        cost(offers, decided),
+    )?;
     Ok(match (least, best) {
         (None, _) => true,
         (_, None) => false,

@@ -1,9 +1,9 @@
-use Rattle.std.proofs.Common.{◌≡◌, ◌≤◌, ◌∙◌, ◌-◌, ℕ, Some, List, length, take, drop, subst, sym, ap, arith}
+use Rattle.std.proofs.Common.{◌≡◌, ◌≤◌, ◌∙◌, ◌-◌, ℕ, List, length, take, drop, subst, ap, arith}
 use Rattle.std.proofs.lemmas.Bool.{leb-true}
 use Rattle.std.proofs.lemmas.List.{take_all}
 use Rattle.std.proofs.Math.ListN.{length-drop}
 use Rattle.fs_board_offers.specs.Offers.{Offer, cost}
-use Rattle.fs_sites_plan.proofs.Walking.{closes, IsDear}
+use Rattle.fs_sites_plan.proofs.Walking.{closes}
 use Rattle.fs_sites_plan.proofs.bound.is_closed.Goals as goal
 
 -- what is sliced off from number n on

@@ -1,4 +1,4 @@
-use Rattle.std.proofs.Common.{◌≡◌, sym, ap}
+use Rattle.std.proofs.Common.{sym}
 use Rattle.fs_sites_plan.proofs.Sinking.{never-paid, paid-once}
 use Rattle.fs_sites_plan.proofs.bound.pay.Goals as goal
 

@@ -1,5 +1,4 @@
-use Rattle.std.proofs.Common.{◌≡◌, ◌<◌, ◌≤◌, ◌+◌, ◌∙◌, ℕ, suc, ap, sym, subst, length, take, arith, min, refl}
-use Rattle.fs_sites_plan.specs.Sinking.{sunk, sunk_offer}
+use Rattle.std.proofs.Common.{◌∙◌, arith}
 use Rattle.fs_sites_plan.proofs.Sinking.{sunk-next, sunk-whole}
 use Rattle.fs_sites_plan.proofs.bound.sink.Goals as goal
 

@@ -1,4 +1,4 @@
-use Rattle.std.proofs.Common.{◌≡◌, ◌<◌, ◌≤◌, ℕ, length, get_or, refl, subst, arith}
+use Rattle.std.proofs.Common.{◌≡◌, ◌<◌, ℕ, length, get_or, refl, subst, arith}
 use Rattle.fs_sites_plan.proofs.Placed.{begins-short}
 use Rattle.fs_sites_plan.proofs.Advancing.{its-offer, begins-before, same-before, follows-next}
 use Rattle.fs_sites_plan.proofs.cursor.advance.Goals as goal

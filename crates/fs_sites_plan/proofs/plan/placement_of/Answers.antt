@@ -1,5 +1,5 @@
-use Rattle.std.proofs.Common.{◌≡◌, ◌∙◌, ◌+◌, suc, true, get_or, length, ap, sym, add-one, arith}
-use Rattle.fs_kinds.specs.Placement.{slots_of, has_slot, with_kind}
+use Rattle.std.proofs.Common.{◌≡◌, ◌∙◌, ◌+◌, suc, get_or, ap, arith}
+use Rattle.fs_kinds.specs.Placement.{has_slot, with_kind}
 use Rattle.fs_kinds.specs.Slot.{is_rising}
 use Rattle.fs_kinds.proofs.Entries.{blank}
 use Rattle.fs_sites_plan.proofs.Filling.{filled_so_far, filled-more, has-next}

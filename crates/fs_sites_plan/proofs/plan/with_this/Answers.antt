@@ -1,6 +1,5 @@
-use Rattle.std.proofs.Common.{◌≡◌, ◌∙◌, Option, Some, List, sym, subst, refl}
+use Rattle.std.proofs.Common.{Option, Some, List, sym, subst, refl}
 use Rattle.fs_kinds.specs.declared.placement.Entry.{Entry}
-use Rattle.fs_board_offers.specs.Offers.{IsPlacement}
 use Rattle.fs_sites_plan.specs.Walks.{IsBestWith, CostsLess, CostsNoLess}
 use Rattle.fs_sites_plan.proofs.Placed.{begins-whole, placement-from}
 use Rattle.fs_sites_plan.proofs.Walking.{with-closed, with-this, unbroken-closes, dear-closes}
@@ -32,8 +31,8 @@ returns-else-breaks_all-clause-ok c =
     with-closed offers are c.requires.plain c.args.bars.now cursor c.args.best c.requires.begins c.requires.before
     (elim c.else-breaks_all.branch [
       | else-breaks_all-via-then-breaks_all+else-is_cheaper w ↦
-        dear-closes offers are c.requires.plain c.args.bars.now cursor c.args.best here
-        (subst (λ (best : Option (List Entry)). CostsNoLess offers best cursor) w.as_ref.ensures.value (w.if-is_cheaper.ensures.no refl))
+          dear-closes offers are c.requires.plain c.args.bars.now cursor c.args.best here
+          (subst (λ (best : Option (List Entry)). CostsNoLess offers best cursor) w.as_ref.ensures.value (w.if-is_cheaper.ensures.no refl))
       | else-breaks_all-via-else-breaks_all w ↦
-        unbroken-closes offers are c.requires.plain c.args.bars.now cursor c.args.best here (sym w.if-breaks_all.ensures)
+          unbroken-closes offers are c.requires.plain c.args.bars.now cursor c.args.best here (sym w.if-breaks_all.ensures)
     ])
