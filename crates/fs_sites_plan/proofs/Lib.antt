@@ -1,3 +1,5 @@
+pub mod Advancing
+pub mod Filling
 pub mod Placed
 pub mod Reaching
 pub mod Sinking

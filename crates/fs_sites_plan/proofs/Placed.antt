@@ -1,10 +1,10 @@
 -- Placements, and lists of entries for offers one by one.
-use Rattle.std.proofs.Common.{◌≡◌, ℕ, zero, suc, ◌+◌, ◌<◌, ◌≤◌, ◌==◌, nat_lt, Bool, true, false, ◌&&◌, ◌||◌, Option, None, Some, unwrap_or, List, [], ◌∷◌, ◌++◌, map, length, take, drop, refl, sym, ap, ap₂, subst, ◌∙◌, arith}
+use Rattle.std.proofs.Common.{◌≡◌, ℕ, zero, suc, ◌+◌, ◌≤◌, nat_lt, Bool, true, false, ◌&&◌, Option, None, Some, unwrap_or, List, [], ◌∷◌, ◌++◌, length, drop, refl, sym, ap, ap₂, subst, ◌∙◌, arith}
 use Rattle.std.specs.Prelude.{slice_get, slice_index_or, if◌then◌else◌}
 use Rattle.std.specs.List.{find, list_all}
 use Rattle.std.proofs.lemmas.Bool.{and_parts, and_from, false≢true, true≢false}
 use Rattle.std.proofs.lemmas.Bool.Decides.{nat_tests}
-use Rattle.std.proofs.lemmas.List.Sums.{sum_by-cons, sum_by-append}
+use Rattle.std.proofs.lemmas.List.Sums.{sum_by-cons}
 use Rattle.fs_kinds.specs.declared.kind.Kind.{Kind}
 use Rattle.fs_kinds.specs.declared.placement.Entry.{Entry}
 use Rattle.fs_kinds.specs.declared.slot.Slot.{Slot}
@@ -14,7 +14,7 @@ use Rattle.fs_kinds.specs.Placement as kinds
 use Rattle.fs_kinds.specs.Slot.{is_same_slot, is_before, is_rising}
 use Rattle.fs_model_laws.proofs.PlacedPairs.{itself}
 use Rattle.fs_model_laws.proofs.Ranked.{by_first, nil≢cons}
-use Rattle.fs_board_offers.specs.Offers.{Offer, Offers, slots, nothing, offer_at, is_offered, kind_cost, is_kind, rank_in, rank_at, entry_cost, cost, precedes, is_offered_at, are_offered, IsPlacement}
+use Rattle.fs_board_offers.specs.Offers.{Offer, Offers, slots, nothing, offer_at, is_offered, kind_cost, is_kind, rank_in, entry_cost, cost, precedes, is_offered_at, are_offered, IsPlacement}
 use Rattle.fs_sites_plan.specs.Plans.{ArePlain}
 use Rattle.fs_sites_plan.specs.Sinking.{Fills, Begins, paid}
 

@@ -1,16 +1,17 @@
 -- A bar that is broken is paid for: what is left to pay sinks by as much.
-use Rattle.std.proofs.Common.{◌≡◌, ℕ, zero, suc, ◌+◌, ◌-◌, ◌≤◌, Bool, true, false, ◌&&◌, not, Option, None, Some, is_some, unwrap_or, option_map, List, [], ◌∷◌, ◌++◌, map, length, refl, sym, ap, subst, ◌∙◌, arith}
+use Rattle.std.proofs.Common.{◌≡◌, ℕ, zero, suc, ◌+◌, ◌-◌, ◌≤◌, Bool, true, false, ◌&&◌, not, Option, None, Some, is_some, unwrap_or, option_map, List, [], ◌∷◌, ◌++◌, length, take, set, get_or, ◌<◌, refl, sym, ap, ap₂, subst, ◌∙◌, arith}
 use Rattle.std.specs.Prelude.{if◌then◌else◌, slice_get, min}
-use Rattle.std.proofs.lemmas.Bool.{false≢true, true≢false}
+use Rattle.std.proofs.lemmas.Bool.{and_parts, false≢true, true≢false}
+use Rattle.std.proofs.lemmas.List.{take_all}
 use Rattle.fs_kinds.specs.declared.kind.Kind.{Kind}
 use Rattle.fs_kinds.specs.declared.kind.Kind.TheVariants.{RR, RW, RRw, WR, WW, WRw, RwR, RwW, RwRw, Tso}
 use Rattle.fs_kinds.specs.declared.placement.Entry.{Entry}
 use Rattle.fs_kinds.specs.Placement.{rank}
 use Rattle.fs_cert_evidence.specs.declared.evidence.Pairs.{Pairs}
 use Rattle.fs_board_offers.specs.Offers.{Offer, price_of, is_offered, kind_cost}
-use Rattle.fs_board_offers.specs.Breaks.{fits, is_break, break_cost, lesser_of, least_of, all_options}
+use Rattle.fs_board_offers.specs.Breaks.{fits, break_cost, lesser_of, least_of, all_options}
 use Rattle.fs_board_offers.specs.Pruning.{lesser}
-use Rattle.fs_sites_plan.specs.Plans.{is_within}
+use Rattle.fs_sites_plan.specs.Plans.{is_within, breaks_all}
 use Rattle.fs_sites_plan.specs.Sinking.{Fills, paid, unbroken_rest, least_in, sunk_price, sunk_offer, sunk, IsAtMost}
 
 -- ---- one site
@@ -210,3 +211,75 @@ rest-within [] (e ∷ p) rest left is = let same : [] ≡ left = cc in ap (λ b.
 rest-within (pairs ∷ bar) (e ∷ p) rest left is =
     rest-by (fits pairs e.kind) pairs bar (unbroken_rest bar p) left (is_within bar (p ++ rest)) (is_within left rest) is
     (rest-within bar p rest left)
+
+-- ---- one bar after the other
+
+not-true : (b : Bool) → not b ≡ true → b ≡ false
+not-true true is = absurd (false≢true is)
+not-true false is = refl
+
+pub never-paid : (bar : List Pairs) (decided : List Entry) (left : List Pairs) (offers : List Offer) (rest : List Entry)
+    → unbroken_rest bar decided ≡ Some left → least_in left offers ≡ None → Fills offers rest
+    → is_within bar (decided ++ rest) ≡ false → ⊥
+never-paid bar decided left offers rest behind none fills broken =
+    let sinks = broken-sinks left offers rest fills (sym (rest-within bar decided rest left behind) ∙ broken) in
+    let is = sinks.is in
+    cc
+
+pub paid-once : (bar : List Pairs) (decided : List Entry) (left : List Pairs) (offers new : List Offer) (rest : List Entry) (d : ℕ)
+    → unbroken_rest bar decided ≡ Some left → least_in left offers ≡ Some d → new ≡ sunk d left offers → Fills offers rest
+    → is_within bar (decided ++ rest) ≡ false → Fills new rest × (d + paid new rest ≤ paid offers rest)
+paid-once bar decided left offers new rest d behind least sank fills broken =
+    let sinks = broken-sinks left offers rest fills (sym (rest-within bar decided rest left behind) ∙ broken) in
+    let is = sinks.is in
+    let same : d ≡ sinks.least = cc in
+    subst (λ (us : List Offer). Fills us rest × (d + paid us rest ≤ paid offers rest)) (sym sank)
+    (fills-sunk d left offers rest fills, sinks.sinks d (no-more d sinks.least same))
+  where
+    no-more : (m n : ℕ) → m ≡ n → m ≤ n
+    no-more m n same = omega (arith, same)
+
+-- what is paid for one more bar
+pub paid-more : (least d most new old left cost whole : ℕ) → new ≡ min (least + d) most → d + left ≤ old → least + old ≤ cost + whole
+    → new + left ≤ cost + whole
+paid-more least d most new old left cost whole is paid low = omega (arith, is, paid, low)
+
+-- ---- site by site
+
+nothing-sunk : (d : ℕ) (bar : List Pairs) → sunk d bar [] ≡ []
+nothing-sunk d [] = refl
+nothing-sunk d (pairs ∷ bar) = refl
+
+pub sunk-more : (d : ℕ) (bar : List Pairs) (offers : List Offer) (k : ℕ) (pairs : Pairs) (o : Offer) → k < length bar → k < length offers
+    → set (sunk d (take k bar) offers) k (sunk_offer d (get_or bar k pairs) (get_or (sunk d (take k bar) offers) k o))
+    ≡ sunk d (take (suc k) bar) offers
+sunk-more d [] offers k pairs o low below = absurd (omega (arith, low))
+sunk-more d (first ∷ bar) [] k pairs o low below = absurd (omega (arith, below))
+sunk-more d (first ∷ bar) (u ∷ offers) zero pairs o low below = refl
+sunk-more d (first ∷ bar) (u ∷ offers) (suc k) pairs o low below =
+    ap (λ us. sunk_offer d first u ∷ us) (sunk-more d bar offers k pairs o (omega (arith, low)) (omega (arith, below)))
+
+pub sunk-next : (d : ℕ) (bar : List Pairs) (offers now : List Offer) (k : ℕ) (pairs : Pairs) (o new : Offer) → k < length bar → k < length offers
+    → now ≡ sunk d (take k bar) offers → new ≡ sunk_offer d (get_or bar k pairs) (get_or now k o)
+    → set now k new ≡ sunk d (take (k + 1) bar) offers
+sunk-next d bar offers now k pairs o new low below so_far is =
+    let one : k + 1 ≡ suc k = omega arith in
+    ap₂ (λ us u. set us k u) so_far (is ∙ ap (λ us. sunk_offer d (get_or bar k pairs) (get_or us k o)) so_far)
+    ∙ (sunk-more d bar offers k pairs o low below ∙ ap (λ n. sunk d (take n bar) offers) (sym one))
+
+pub sunk-whole : (d : ℕ) (bar : List Pairs) (offers : List Offer) (n : ℕ) → n ≡ min (length bar) (length offers)
+    → sunk d (take n bar) offers ≡ sunk d bar offers
+sunk-whole d [] offers n is = ap (λ b. sunk d b offers) (take_all n [] (omega arith))
+sunk-whole d (first ∷ bar) [] n is = nothing-sunk d (take n (first ∷ bar)) ∙ sym (nothing-sunk d (first ∷ bar))
+sunk-whole d (first ∷ bar) (u ∷ offers) zero is = absurd (omega (arith, is))
+sunk-whole d (first ∷ bar) (u ∷ offers) (suc n) is =
+    ap (λ us. sunk_offer d first u ∷ us) (sunk-whole d bar offers n (omega (arith, is)))
+
+-- each bar is broken where all are
+pub bar-broken : (bars : List (List Pairs)) (p : List Entry) (k : ℕ) (bar d : List Pairs) → breaks_all bars p ≡ true → k < length bars
+    → bar ≡ get_or bars k d → is_within bar p ≡ false
+bar-broken [] p k bar d breaks low is = absurd (omega (arith, low))
+bar-broken (first ∷ bars) p zero bar d breaks low is =
+    ap (λ b. is_within b p) is ∙ not-true (is_within first p) (and_parts (not (is_within first p)) (breaks_all bars p) breaks).0
+bar-broken (first ∷ bars) p (suc k) bar d breaks low is =
+    bar-broken bars p k bar d (and_parts (not (is_within first p)) (breaks_all bars p) breaks).1 (omega (arith, low)) is

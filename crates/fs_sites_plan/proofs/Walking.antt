@@ -1,6 +1,6 @@
 -- What a walk has found stays right as its cursor moves.
-use Rattle.std.proofs.Common.{◌≡◌, ◌⊎◌, ℕ, ◌+◌, ◌<◌, ◌≤◌, ◌==◌, Bool, true, false, ◌&&◌, ◌||◌, Option, None, Some, List, [], ◌∷◌, ◌++◌, length, take, drop, inl, inr, refl, sym, ap, ap₂, subst, ◌∙◌, arith}
-use Rattle.std.specs.Prelude.{IfSome, MatchOption, slice_get}
+use Rattle.std.proofs.Common.{◌≡◌, ◌⊎◌, ℕ, ◌+◌, ◌<◌, ◌≤◌, Bool, true, false, Option, None, Some, List, [], ◌∷◌, ◌++◌, length, take, drop, inl, inr, sym, ap, ap₂, subst, ◌∙◌, arith}
+use Rattle.std.specs.Prelude.{IfSome, MatchOption}
 use Rattle.std.proofs.lemmas.Bool.{false≢true, true≢false, false_from_ne_true}
 use Rattle.std.proofs.lemmas.List.{take-append-drop, take_all}
 use Rattle.std.proofs.lemmas.List.Sums.{sum_by-append}
@@ -9,7 +9,7 @@ use Rattle.fs_kinds.specs.declared.slot.Slot.{Slot}
 use Rattle.fs_kinds.specs.Placement as kinds
 use Rattle.fs_cert_evidence.specs.declared.evidence.Pairs.{Pairs}
 use Rattle.fs_model_laws.proofs.Ranked.{first-cases, first-less, order, entry_of}
-use Rattle.fs_board_offers.specs.Offers.{Offer, Offers, AreOffers, slots, entry_cost, cost, precedes, is_better, IsPlacement}
+use Rattle.fs_board_offers.specs.Offers.{Offer, Offers, AreOffers, entry_cost, cost, precedes, is_better, IsPlacement}
 use Rattle.fs_board_offers.specs.Bounds.{IsNoBetter}
 use Rattle.fs_board_offers.proofs.Ranked.{not_before_itself, before-transitive, better-irreflexive}
 use Rattle.fs_sites_plan.specs.Plans.{ArePlain, breaks_all, IsFirstBreaking, NoneBreaks}
@@ -47,10 +47,27 @@ module _ (offers : Offers) (are : AreOffers offers) where
       let fill = fills-behind n offers q (fills offers q are.rising is) in
       subst (IsAtMost least) (sym (split-cost cursor q is with)) (bound rest fill (ap (breaks_all bars) whole ∙ breaks))
 
-  no-less : (best : Option (List Entry)) (least : ℕ) (q : List Entry)
-      → IfSome best (λ p. cost offers p ≤ least) → (best ≡ None → ⊥) → IsAtMost (Some least) (cost offers q) → CostsNoLess offers best q
-  no-less None least q low some bound = some refl
-  no-less (Some p) least q low some bound = omega (arith, low, bound)
+  -- the best placement costs no more than the bound; where there is no bound nothing is left
+  abbrev pub IsDear : (best : Option (List Entry)) → Option ℕ → Type 0
+  IsDear best None = Unit {0}
+  IsDear None (Some least) = ⊥
+  IsDear (Some p) (Some least) = cost offers p ≤ least
+
+  no-less : (best : Option (List Entry)) (least : Option ℕ) (q : List Entry) → IsDear best least → IsAtMost least (cost offers q)
+      → CostsNoLess offers best q
+  no-less best None q dear bound = absurd bound
+  no-less None (Some least) q dear bound = dear
+  no-less (Some p) (Some least) q dear bound = omega (arith, dear, bound)
+
+  pub closes : (bars : List (List Pairs)) (cursor : List Entry) (best : Option (List Entry)) (least : Option ℕ) (paid_there : ℕ) (left : List Offer)
+      → left ≡ drop (length cursor) offers → paid_there ≡ cost offers cursor
+      → ((rest : List Entry) → Fills left rest → breaks_all bars (cursor ++ rest) ≡ true → IsAtMost least (paid_there + paid left rest))
+      → IsDear best least → Closes offers bars best cursor
+  closes bars cursor best least paid_there left same paid_is bound dear q is with breaks =
+      no-less best least q dear (bounded bars cursor least (λ rest fill breaking.
+      let there = bound rest (subst (λ (os : List Offer). Fills os rest) (sym same) fill) breaking in
+      subst (λ (os : List Offer). IsAtMost least (cost offers cursor + paid os rest)) same
+      (subst (λ (n : ℕ). IsAtMost least (n + paid left rest)) paid_is there)) q is with breaks)
 
   -- ---- the order
 
@@ -195,3 +212,9 @@ module _ (offers : Offers) (are : AreOffers offers) where
       better = λ q placement better. false_from_ne_true (breaks_all bars q) (λ breaks.
           true≢false (sym better ∙ is.none_better q placement breaks (end q (fills offers q are.rising placement))));
     }
+
+    pub deeper : (cursor new : List Entry) (s : Slot) (e : Entry) (best : Option (List Entry)) → new ≡ cursor ++ (e ∷ []) → e ≡ entry_of s None
+        → length cursor < length offers → IsBestBefore offers bars cursor best → IsBestBefore offers bars new best
+    deeper cursor new s e best grown empty short is =
+        subst (λ (p : List Entry). IsBestBefore offers bars p best) (sym (grown ∙ ap (λ f. cursor ++ (f ∷ [])) empty))
+        (with-none cursor s best short is)

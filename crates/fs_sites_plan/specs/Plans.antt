@@ -1,6 +1,6 @@
 -- The cheapest fences of sites that break bars. The entries of a placement are those of the sites, in order; a bar is an
 -- execution, by the pairs of operations that its order keeps at each site.
-use Rattle.std.specs.Prelude.{◌≡◌, ℕ, Bool, true, false, ◌&&◌, not, None, Some, List, [], ◌∷◌, slice_get}
+use Rattle.std.specs.Prelude.{◌≡◌, ℕ, Bool, true, false, ◌&&◌, not, None, Some, List, ◌∷◌, slice_get}
 use Rattle.std.specs.List.{list_all}
 use Rattle.fs_kinds.specs.declared.placement.Entry.{Entry}
 use Rattle.fs_cert_evidence.specs.declared.evidence.Pairs.{Pairs}

@@ -1,6 +1,6 @@
 -- What placements that break bars cost at least: each bar in turn takes what the cheapest of its ways costs, and each of
 -- these ways is so much cheaper for the later ones.
-use Rattle.std.specs.Prelude.{◌≡◌, ℕ, ◌+◌, ◌-◌, ◌≤◌, Bool, true, if◌then◌else◌, Option, None, Some, option_map, List, [], ◌∷◌, map}
+use Rattle.std.specs.Prelude.{◌≡◌, ℕ, ◌+◌, ◌-◌, ◌≤◌, true, if◌then◌else◌, Option, None, Some, option_map, List, [], ◌∷◌, map}
 use Rattle.fs_kinds.specs.declared.kind.Kind.{Kind}
 use Rattle.fs_kinds.specs.declared.placement.Entry.{Entry}
 use Rattle.fs_kinds.specs.Kind.{all_kinds}

@@ -1,10 +1,10 @@
 //! What placements that begin with what is decided and break all bars cost at least.
 
-ghost use Rattle.std.specs.Prelude.{◌≡◌, ◌+◌, ◌≤◌, true, false, IfOk, IfSome, IsTrue, List, ◌++◌, option_map};
+ghost use Rattle.std.specs.Prelude.{◌≡◌, ◌+◌, ◌≤◌, true, false, IfOk, IfSome, IsTrue, List, ◌++◌, length, option_copied};
 ghost use Rattle.fs_kinds.specs.declared.placement.Entry.{Entry as EntryValue};
 ghost use Rattle.fs_board_offers.specs.Breaks.{break_cost, least_of};
 ghost use Rattle.fs_sites_plan.specs.Plans.{is_within, breaks_all};
-ghost use Rattle.fs_sites_plan.specs.Sinking.{Fills, Begins, paid, least_in, sunk_price, sunk_offer, sunk, IsAtMost, HasPaid};
+ghost use Rattle.fs_sites_plan.specs.Sinking.{Fills, paid, least_in, sunk_price, sunk_offer, sunk, IsAtMost, HasPaid};
 ghost use Rattle.fs_sites_plan.specs.Walks.{Closes};
 
 use crate::bars::{fits, unbroken_rest};
@@ -32,7 +32,10 @@ fn least_of(offer: &Offer, pairs: Pairs, kinds: &[Option<Kind>]) -> Option<u32>
     let [kind, kinds @ ..] = kinds else {
         return None;
     };
-    lesser(break_cost(offer, pairs, *kind), least_of(offer, pairs, kinds))
+    lesser(
+        break_cost(offer, pairs, *kind),
+        least_of(offer, pairs, kinds),
+    )
 }
 
 /// What the cheapest way costs to break the bar at one of these sites. It calls itself once for each site.
@@ -157,12 +160,19 @@ pub(crate) fn is_closed(
     decided: &[Entry],
     best: Option<&Placement>,
 ) -> Result<bool, AllocError>
-    requires { Begins offers.now decided.now }
+    requires { length decided.now ≤ length offers.now }
     ensures { IfOk result (λ closed. IsTrue closed
-        → Closes offers.now bars.now (option_map (λ p. p.now) best.entry) decided.now) }
+        → Closes offers.now bars.now (option_copied best.entry) decided.now) }
 {
     let undecided = &offers.as_slice()[decided.len()..];
-    let least = bound(alloc, undecided, bars, order, decided, cost(offers, decided))?;
+    let least = bound(
+        alloc,
+        undecided,
+        bars,
+        order,
+        decided,
+        cost(offers, decided),
+    )?;
     Ok(match (least, best) {
         (None, _) => true,
         (_, None) => false,

@@ -1,10 +1,9 @@
 //! Finds the first of the cheapest placements that break all bars.
 
-ghost use Rattle.std.specs.Prelude.{◌≢◌, ◌⊎◌, ◌≡◌, ℕ, IsTrue, IfOk, IfErr, IfSome, MatchOption, IsOkUnless, None, length, option_map};
+ghost use Rattle.std.specs.Prelude.{◌≢◌, ◌≡◌, ◌<◌, ◌≤◌, IsTrue, IfOk, IfErr, MatchOption, IsOkUnless, false, None, length, option_copied};
 ghost use Rattle.fs_kinds.specs.declared.fault.Fault.TheVariants.{Memory, NodeLimit};
-ghost use Rattle.fs_kinds.specs.Slot.{is_rising};
-ghost use Rattle.fs_kinds.specs.Placement.{slots_of, has_slot, with_kind};
-ghost use Rattle.fs_board_offers.specs.Offers.{IsPlacement, slots};
+ghost use Rattle.fs_kinds.specs.Placement.{has_slot, with_kind};
+ghost use Rattle.fs_board_offers.specs.Offers.{IsPlacement};
 ghost use Rattle.fs_sites_plan.specs.Plans.{ArePlain, IsFirstBreaking, NoneBreaks};
 ghost use Rattle.fs_sites_plan.specs.Sinking.{Begins};
 ghost use Rattle.fs_sites_plan.specs.Walks.{CostsLess, CostsNoLess, IsBestBefore, IsBestWith};
@@ -74,8 +73,8 @@ fn order_of(
 
 /// Does the placement cost less than the best one, or is there none?
 fn is_cheaper(offers: &Offers, placement: &[Entry], best: Option<&Placement>) -> bool
-    ensures yes { IsTrue result → CostsLess offers.now (option_map (λ p. p.now) best.entry) placement.now }
-    ensures no { result ≡ false → CostsNoLess offers.now (option_map (λ p. p.now) best.entry) placement.now }
+    ensures yes { IsTrue result → CostsLess offers.now (option_copied best.entry) placement.now }
+    ensures no { result ≡ false → CostsNoLess offers.now (option_copied best.entry) placement.now }
 {
     match best {
         None => true,
@@ -98,11 +97,39 @@ fn with_this(
     ensures ok { IfOk result (IsBestWith offers.now bars.now cursor.now) }
     ensures err { IsOkUnless result Fault.Memory }
 {
+    let _are = offers.as_slice();
     if breaks_all(bars, cursor) && is_cheaper(offers, cursor, best.as_ref()) {
         Ok(Some(placement_of(alloc, offers, cursor)?))
     } else {
         Ok(best)
     }
+}
+
+/// Is all seen that begins with the cursor? And the best placement, after that or as it was. The error is F19.
+fn visit(
+    alloc: Global,
+    offers: &Offers,
+    bars: &[List<Pairs>],
+    order: &[usize],
+    cursor: &[Entry],
+    best: Option<Placement>,
+) -> Result<(bool, Option<Placement>), Fault>
+    requires plain { ArePlain offers.now }
+    requires begins { Begins offers.now cursor.now }
+    requires short { length cursor.now ≤ length offers.now }
+    requires before { IsBestBefore offers.now bars.now cursor.now best }
+    ensures seen { IfOk result (λ found. IsTrue found.0 → IsBestWith offers.now bars.now cursor.now found.1) }
+    ensures short { IfOk result (λ found. found.0 ≡ false → length cursor.now < length offers.now) }
+    ensures before { IfOk result (λ found. found.0 ≡ false
+        → IsBestBefore offers.now bars.now cursor.now found.1) }
+    ensures err { IsOkUnless result Fault.Memory }
+{
+    if cursor.len() == offers.as_slice().len() {
+        let found = with_this(alloc, offers, bars, cursor, best)?;
+        return Ok((true, found));
+    }
+    let is_seen = is_closed(alloc, offers, bars, order, cursor, best.as_ref())?;
+    Ok((is_seen, best))
 }
 
 /// The offer's slot with no fence.
@@ -133,9 +160,9 @@ pub fn first_breaking(
     let mut cursor = Vec::new(alloc);
     let mut best = None;
     for _ in 0..most_steps {
-        if cursor.len() == sites.len() {
-            best = with_this(alloc, offers, bars, &cursor, best)?;
-        } else if !is_closed(alloc, offers, bars, &order, &cursor, best.as_ref())? {
+        let (is_seen, found) = visit(alloc, offers, bars, &order, &cursor, best)?;
+        best = found;
+        if !is_seen {
             cursor.push(empty_at(&sites[cursor.len()]))?;
             continue;
         }

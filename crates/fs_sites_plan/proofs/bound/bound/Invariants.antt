@@ -6,8 +6,6 @@ use Rattle.fs_sites_plan.proofs.bound.bound.Given as goal
 
 -- what is paid, and what is left to pay, is no more than what a placement costs
 abbrev pub invariant-loop-number : goal.invariant-loop-number
-invariant-loop-number l = record {
-  fills : (rest : List Entry) → Fills l.undecided rest → Fills l.offers.items rest;
-  low : (rest : List Entry) → Fills l.undecided rest → breaks_all l.bars (l.decided ++ rest) ≡ true
-      → l.least + paid l.offers.items rest ≤ l.cost + paid l.undecided rest;
-}
+invariant-loop-number l =
+    (rest : List Entry) → Fills l.undecided rest → breaks_all l.bars (l.decided ++ rest) ≡ true
+    → Fills l.offers.items rest × (l.least + paid l.offers.items rest ≤ l.cost + paid l.undecided rest)

@@ -1,4 +1,4 @@
-use Rattle.std.proofs.Common.{◌≡◌, List, vec_len}
+use Rattle.std.proofs.Common.{◌≡◌, ◌≤◌, List, length, vec_len}
 use Rattle.fs_kinds.specs.declared.placement.Entry.{Entry}
 use Rattle.fs_sites_plan.specs.Sinking.{Fills, Begins}
 use Rattle.fs_sites_plan.specs.Walks.{is_reached}
@@ -7,6 +7,7 @@ use Rattle.fs_sites_plan.proofs.cursor.advance.Given as goal
 abbrev pub invariant-loop-last : goal.invariant-loop-last
 invariant-loop-last l = record {
   begins : Begins l.offers l.cursor.items;
+  short : length l.cursor.items ≤ length l.offers;
   same : (q : List Entry) → Fills l.offers q → is_reached q l.initial.cursor.items ≡ is_reached q l.cursor.items;
 }
 

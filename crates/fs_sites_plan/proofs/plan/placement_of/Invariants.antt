@@ -1,6 +1,6 @@
-use Rattle.std.proofs.Common.{◌≡◌, ◌++◌, take, drop, None}
-use Rattle.fs_kinds.specs.Placement.{all_with, slots_of}
+use Rattle.std.proofs.Common.{◌≡◌}
+use Rattle.fs_sites_plan.proofs.Filling.{filled_so_far}
 use Rattle.fs_sites_plan.proofs.plan.placement_of.Given as goal
 
 abbrev pub invariant-loop-entry : goal.invariant-loop-entry
-invariant-loop-entry l = l.placement ≡ take l.entry-index l.entries ++ drop l.entry-index (all_with None (slots_of l.entries))
+invariant-loop-entry l = l.placement ≡ filled_so_far l.entry-index l.entries
