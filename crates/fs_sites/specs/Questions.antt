@@ -34,14 +34,15 @@ abbrev pub image : List Place → List Entry → List Entry
 image places p = map (λ place. record { slot = place.slot; kind = kind_of place.site p }) places
 
 -- with these fences of the sites some test's outcome is allowed
-abbrev pub AllowsIn : Question → List Entry → Type 0
-AllowsIn q p = (number : ℕ) × (part : Part) × (slice_get q.parts number ≡ Some part) × Allows part.test (image part.places p)
+abbrev pub AllowsIn : List Part → List Entry → Type 0
+AllowsIn parts p =
+    (number : ℕ) × (part : Part) × (slice_get parts number ≡ Some part) × Allows part.test (image part.places p)
 
 -- p forbids each test's outcome, and every better placement allows one
 pub record IsCheapestIn (q : Question) (p : List Entry) : Type 0 where
   pub placement : IsPlacement q.offers p
-  pub forbids : AllowsIn q p → ⊥
-  pub better : (r : List Entry) → IsPlacement q.offers r → is_better q.offers r p ≡ true → AllowsIn q r
+  pub forbids : AllowsIn q.parts p → ⊥
+  pub better : (r : List Entry) → IsPlacement q.offers r → is_better q.offers r p ≡ true → AllowsIn q.parts r
 
 -- rw,rw at each site
 abbrev pub top : Offers → List Entry

@@ -5,6 +5,7 @@
 mod answer;
 mod bars;
 mod images;
+pub mod laws;
 mod question;
 mod rounds;
 

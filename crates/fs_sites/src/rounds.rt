@@ -4,6 +4,7 @@
 ghost use Rattle.std.specs.Prelude.{◌≡◌, ◌≢◌, ◌≤◌, true, map, length, All, IfOk, IfErr, MatchOption, IsOkUnless};
 ghost use Rattle.fs_kinds.specs.declared.fault.Fault.TheVariants.{Memory};
 ghost use Rattle.fs_board_offers.specs.Offers.{cost};
+ghost use Rattle.fs_board_offers.specs.Questions.{HasTop};
 ghost use Rattle.fs_cert_evidence.specs.CandidateFaults.{IsCandidateFault};
 ghost use Rattle.fs_judge.specs.Verdicts.{IsVerdict};
 ghost use Rattle.fs_sites.specs.Questions.{AllowsIn, IsPart, IsQuestion, image, top};
@@ -19,7 +20,7 @@ use fs_cert_evidence::{Pairs, Witness};
 use fs_judge::{Judge, Problem, Verdict};
 use fs_kinds::{Fault, List, Placement};
 use fs_sites_plan::first_breaking;
-use std::alloc::Global;
+use std::alloc::{AllocError, Global};
 use std::sync::Arc;
 
 /// A judge of the test.
@@ -34,13 +35,13 @@ fn judge_of(alloc: Global, part: &Part) -> Result<Judge, Fault>
 }
 
 /// A judge of each test.
-fn judges_of(alloc: Global, question: &Question) -> Result<Vec<Judge>, Fault>
-    requires { IsQuestion question.now }
-    ensures ok { IfOk result (λ judges. judges.items ≡ map (λ part. part.test) question.now.parts) }
-    ensures err { IfErr result (λ f. f ≢ Memory → IsPartFault question.now f) }
+fn judges_of(alloc: Global, parts: &[Part]) -> Result<Vec<Judge>, Fault>
+    requires { All IsPart parts.now }
+    ensures ok { IfOk result (λ judges. judges.items ≡ map (λ part. part.test) parts.now) }
+    ensures err { IfErr result (λ f. f ≢ Memory → IsPartFault parts.now f) }
 {
     let mut judges = Vec::new(alloc);
-    for part in &question.parts {
+    for part in parts {
         judges.push(judge_of(alloc, part)?)?;
     }
     Ok(judges)
@@ -67,24 +68,24 @@ fn verdict(
 /// a witness.
 fn allowing_between(
     alloc: Global,
-    question: &Question,
+    parts: &[Part],
     judges: &mut [Judge],
-    numbers: (usize, usize),
+    from: usize,
+    to: usize,
     placement: &Placement,
 ) -> Result<Option<(usize, Witness)>, Fault>
-    requires asked { IsQuestion question.now }
-    requires same { judges.old ≡ map (λ part. part.test) question.now.parts }
-    requires most { numbers.1 ≤ length question.now.parts }
+    requires parts { All IsPart parts.now }
+    requires same { judges.old ≡ map (λ part. part.test) parts.now }
+    requires most { to ≤ length parts.now }
     ensures value { judges.new ≡ judges.old }
-    ensures ok { IfOk result (λ found. MatchOption found
-        (ForbidBetween question.now numbers.0 numbers.1 placement.now)
-        (λ shown. IsShownIn question.now placement.now shown.0 shown.1)) }
-    ensures err { IfErr result (λ f. f ≢ Memory → IsPartFault question.now f) }
+    ensures ok { IfOk result (λ found. MatchOption found (ForbidBetween parts.now from to placement.now)
+        (λ shown. IsShownIn parts.now placement.now shown.0 shown.1)) }
+    ensures err { IfErr result (λ f. f ≢ Memory → IsPartFault parts.now f) }
 {
-    for number in numbers.0..numbers.1 {
-        let part = &question.parts[number];
-        if let Verdict::Allowed(witness) = verdict(alloc, part, &mut judges[number], placement)? {
-            return Ok(Some((number, witness)));
+    for number in from..to {
+        match verdict(alloc, &parts[number], &mut judges[number], placement)? {
+            Verdict::Allowed(witness) => return Ok(Some((number, witness))),
+            Verdict::Forbids(_) => {}
         }
     }
     Ok(None)
@@ -94,60 +95,60 @@ fn allowing_between(
 /// outcomes. The test of the first number is judged first.
 fn allowing(
     alloc: Global,
-    question: &Question,
+    parts: &[Part],
     judges: &mut [Judge],
     first: usize,
     placement: &Placement,
 ) -> Result<Option<(usize, Witness)>, Fault>
-    requires asked { IsQuestion question.now }
-    requires same { judges.old ≡ map (λ part. part.test) question.now.parts }
-    requires most { first ≤ length question.now.parts }
+    requires parts { All IsPart parts.now }
+    requires same { judges.old ≡ map (λ part. part.test) parts.now }
+    requires most { first ≤ length parts.now }
     ensures value { judges.new ≡ judges.old }
-    ensures ok { IfOk result (λ found. MatchOption found (AllowsIn question.now placement.now → ⊥)
-        (λ shown. IsShownIn question.now placement.now shown.0 shown.1)) }
-    ensures err { IfErr result (λ f. f ≢ Memory → IsPartFault question.now f) }
+    ensures ok { IfOk result (λ found. MatchOption found (AllowsIn parts.now placement.now → ⊥)
+        (λ shown. IsShownIn parts.now placement.now shown.0 shown.1)) }
+    ensures err { IfErr result (λ f. f ≢ Memory → IsPartFault parts.now f) }
 {
-    let later = (first, question.parts.len());
-    let found = allowing_between(alloc, question, judges, later, placement)?;
+    let found = allowing_between(alloc, parts, judges, first, parts.len(), placement)?;
     if found.is_some() {
         return Ok(found);
     }
-    allowing_between(alloc, question, judges, (0, first), placement)
+    allowing_between(alloc, parts, judges, 0, first, placement)
 }
 
 /// The same of `rw,rw` at each site.
 fn allowing_top(
     alloc: Global,
-    question: &Question,
+    parts: &[Part],
+    offers: &Offers,
     judges: &mut [Judge],
 ) -> Result<Option<(usize, Witness)>, Fault>
-    requires asked { IsQuestion question.now }
-    requires same { judges.old ≡ map (λ part. part.test) question.now.parts }
+    requires parts { All IsPart parts.now }
+    requires same { judges.old ≡ map (λ part. part.test) parts.now }
     ensures value { judges.new ≡ judges.old }
-    ensures ok { IfOk result (λ found. MatchOption found (AllowsIn question.now (top question.now.offers) → ⊥)
-        (λ shown. IsShownIn question.now (top question.now.offers) shown.0 shown.1)) }
-    ensures err { IfErr result (λ f. f ≢ Memory → IsPartFault question.now f) }
+    ensures ok { IfOk result (λ found. MatchOption found (AllowsIn parts.now (top offers.now) → ⊥)
+        (λ shown. IsShownIn parts.now (top offers.now) shown.0 shown.1)) }
+    ensures err { IfErr result (λ f. f ≢ Memory → IsPartFault parts.now f) }
 {
-    let sites = question.offers.slots(alloc)?;
+    let sites = offers.slots(alloc)?;
     let top = Placement::top(alloc, &sites)?;
-    allowing(alloc, question, judges, 0, &top)
+    allowing(alloc, parts, judges, 0, &top)
 }
 
 /// The bar of the execution that the witness gives, of the test of this number.
 fn bar_by(
     alloc: Global,
-    question: &Question,
+    parts: &[Part],
+    offers: &Offers,
     number: usize,
     witness: &Witness,
-) -> Result<List<Pairs>, Fault>
-    requires asked { IsQuestion question.now }
-    requires shown { IsShownBySome question.now number witness.now }
-    ensures ok { IfOk result (IsBarOf question.now) }
-    ensures err { IsOkUnless result Memory }
+) -> Result<List<Pairs>, AllocError>
+    requires parts { All IsPart parts.now }
+    requires shown { IsShownBySome parts.now number witness.now }
+    ensures { IfOk result (IsBarOf parts.now offers.now) }
 {
-    let part = &question.parts[number];
-    let sites = question.offers.as_slice().len();
-    Ok(bar_of(alloc, &part.places, &witness.widths, sites)?)
+    let part = &parts[number];
+    let sites = offers.as_slice().len();
+    bar_of(alloc, &part.places, &witness.widths, sites)
 }
 
 /// The placement as an answer, with its cost.
@@ -161,29 +162,33 @@ fn fenced(offers: &Offers, placement: Placement) -> Answer
 /// The answer by at most so many rounds, where `rw,rw` at each site forbids all outcomes.
 fn by_rounds(
     alloc: Global,
-    question: &Question,
+    parts: &[Part],
+    offers: &Offers,
     judges: &mut [Judge],
     most_rounds: usize,
     most_steps: usize,
 ) -> Result<Answer, Fault>
-    requires asked { IsQuestion question.now }
-    requires same { judges.old ≡ map (λ part. part.test) question.now.parts }
-    requires forbidden { AllowsIn question.now (top question.now.offers) → ⊥ }
-    ensures ok { IfOk result (IsAnswer question.now) }
-    ensures err { IfErr result (λ f. f ≢ Memory → IsSolveFault question.now f) }
+    requires parts { All IsPart parts.now }
+    requires top { HasTop offers.now }
+    requires same { judges.old ≡ map (λ part. part.test) parts.now }
+    requires forbidden { AllowsIn parts.now (top offers.now) → ⊥ }
+    ensures ok { IfOk result (IsAnswer (record { parts = parts.now; offers = offers.now })) }
+    ensures err { IfErr result (λ f. f ≢ Memory → IsSolveFault parts.now f) }
 {
     let mut bars = Vec::new(alloc);
     let mut first = 0;
     for _ in 0..most_rounds {
-        let found = first_breaking(alloc, &question.offers, &bars, most_steps)?;
+        let found = first_breaking(alloc, offers, &bars, most_steps)?;
         let Some(placement) = found else {
             unreachable!()
         };
-        let Some((part, witness)) = allowing(alloc, question, judges, first, &placement)? else {
-            return Ok(fenced(&question.offers, placement));
-        };
-        bars.push(bar_by(alloc, question, part, &witness)?)?;
-        first = part;
+        match allowing(alloc, parts, judges, first, &placement)? {
+            None => return Ok(fenced(offers, placement)),
+            Some((number, witness)) => {
+                bars.push(bar_by(alloc, parts, offers, number, &witness)?)?;
+                first = number;
+            }
+        }
     }
     Err(Fault::NodeLimit)
 }
@@ -200,11 +205,13 @@ pub fn solve(
 ) -> Result<Answer, Fault>
     requires { IsQuestion question.now }
     ensures ok { IfOk result (IsAnswer question.now) }
-    ensures err { IfErr result (λ f. f ≢ Memory → IsSolveFault question.now f) }
+    ensures err { IfErr result (λ f. f ≢ Memory → IsSolveFault question.now.parts f) }
 {
-    let mut judges = judges_of(alloc, question)?;
-    if let Some((part, witness)) = allowing_top(alloc, question, &mut judges)? {
+    let parts = question.parts.as_slice();
+    let offers = &question.offers;
+    let mut judges = judges_of(alloc, parts)?;
+    if let Some((part, witness)) = allowing_top(alloc, parts, offers, &mut judges)? {
         return Ok(Answer::None { part, witness });
     }
-    by_rounds(alloc, question, &mut judges, most_rounds, most_steps)
+    by_rounds(alloc, parts, offers, &mut judges, most_rounds, most_steps)
 }

@@ -2,13 +2,13 @@
 use Rattle.std.specs.Prelude.{◌≡◌, ◌<◌, ◌≤◌, ◌&&◌, ℕ, true, Some, List, length, slice_get}
 use Rattle.fs_kinds.specs.declared.placement.Entry.{Entry}
 use Rattle.fs_kinds.specs.Kind.{Pair}
-use Rattle.fs_board_offers.specs.Offers.{IsPlacement}
+use Rattle.fs_board_offers.specs.Offers.{Offers, IsPlacement}
 use Rattle.fs_model.specs.Allows.{Allows}
 use Rattle.fs_cert_evidence.specs.declared.evidence.Pairs.{Pairs}
 use Rattle.fs_cert_evidence.specs.Evidence.{Shown, keeps}
 use Rattle.fs_sites_plan.specs.Plans.{is_within}
 use Rattle.fs_sites.specs.Answers.{IsShownIn}
-use Rattle.fs_sites.specs.Questions.{Question, Part, AllowsIn, image}
+use Rattle.fs_sites.specs.Questions.{Part, AllowsIn, image}
 use Rattle.fs_sites.specs.declared.question.Place.{Place}
 
 -- each pair of the first is one of the second
@@ -32,15 +32,19 @@ abbrev pub IsBar : List Place → List Pairs → List Pairs → Type 0
 IsBar places widths bar = (site : ℕ) (pairs : Pairs) → slice_get bar site ≡ Some pairs → AreKept places widths site pairs
 
 -- a placement that leaves the bar unbroken allows some test's outcome
-abbrev pub IsBarOf : Question → List Pairs → Type 0
-IsBarOf q bar = (r : List Entry) → IsPlacement q.offers r → is_within bar r ≡ true → AllowsIn q r
+abbrev pub IsBarOf : List Part → Offers → List Pairs → Type 0
+IsBarOf parts offers bar = (r : List Entry) → IsPlacement offers r → is_within bar r ≡ true → AllowsIn parts r
 
 -- the witness shows the outcome of the test of this number with some fences of the sites
-abbrev pub IsShownBySome : Question → ℕ → Shown → Type 0
-IsShownBySome q number witness = (p : List Entry) × IsShownIn q p number witness
+abbrev pub IsShownBySome : List Part → ℕ → Shown → Type 0
+IsShownBySome parts number witness = (p : List Entry) × IsShownIn parts p number witness
 
 -- no test from one number up to another allows its outcome with these fences of the sites
-abbrev pub ForbidBetween : Question → (from to : ℕ) → List Entry → Type 0
-ForbidBetween q from to p =
-    (number : ℕ) (part : Part) → from ≤ number → number < to → slice_get q.parts number ≡ Some part
+abbrev pub ForbidBetween : List Part → (from to : ℕ) → List Entry → Type 0
+ForbidBetween parts from to p =
+    (number : ℕ) (part : Part) → from ≤ number → number < to → slice_get parts number ≡ Some part
     → Allows part.test (image part.places p) → ⊥
+
+-- and each of these is such a bar
+abbrev pub AreBars : List Part → Offers → List (List Pairs) → Type 0
+AreBars parts offers bars = (k : ℕ) (bar : List Pairs) → slice_get bars k ≡ Some bar → IsBarOf parts offers bar
