@@ -11,7 +11,7 @@ use Rattle.fs_litmus_sites.proofs.reader.read_site_labels.Goals as goal
 pub returns-in_err-_lines-clause-err : goal.returns-in_err-_lines-clause-err
 returns-in_err-_lines-clause-err c =
     IfErr-handed c.from_residual.result _ (λ f. f ≢ Memory → IsSiteFault c.args.bytes.now f) c.from_residual.ensures.1
-      (λ known. broken (c.in_err-_lines.ensures.err known).1)
+    (λ known. broken (c.in_err-_lines.ensures.err known).1)
 
 pub unreachable-requires : goal.unreachable-requires
 unreachable-requires c =
@@ -30,7 +30,7 @@ returns-in-Some-clash-clause-err c = λ known.
     let bytes = c.args.bytes.now in
     let there = tokens_there bytes _ _ c.in_ok-tokens.tokens.items c.deref.result.now c.in_ok-tokens.field-0-1 c.in-Some.ensures.value c.deref.ensures.value c.in_ok-tokens.ensures.are in
     again (form_read bytes (views c.deref.result.now) _ there _ _ c.in_ok-_lines.ensures.ok.has_form (form_of c.in-Ok.read.0) _ c.in-Ok.ensures.ok)
-      (ap clash (sym c.in_ok-sites.ensures) ∙ ap (λ l. clash (all_of l)) (sym c.deref-2.ensures.value) ∙ sym c.clash.ensures ∙ c.in-Some-clash.is)
+    (ap clash (sym c.in_ok-sites.ensures) ∙ ap (λ l. clash (all_of l)) (sym c.deref-2.ensures.value) ∙ sym c.clash.ensures ∙ c.in-Some-clash.is)
 
 pub returns-clause-ok : goal.returns-clause-ok
 returns-clause-ok c =
