@@ -7,8 +7,6 @@ mod hart;
 mod name;
 mod reader;
 mod site_label;
-#[cfg(test)]
-mod tests;
 
 pub use reader::read_site_labels;
 pub use site_label::SiteLabel;

@@ -1,7 +1,7 @@
 //! Where the site labels of small tests stand.
 
-use crate::read_site_labels;
 use fs_kinds::Fault;
+use fs_litmus_sites::read_site_labels;
 use std::alloc::{AllocError, Global};
 use std::test::Fail;
 
