@@ -3,12 +3,12 @@ use Rattle.std.proofs.Common.{◌≡◌, List, [], ◌∷◌, ◌++◌, refl, ap
 use Rattle.std.proofs.lemmas.List.{map-append}
 use Rattle.fs_litmus_tokens.specs.Tokens.{Lined, view, views}
 use Rattle.fs_litmus_tokens.specs.declared.token.Token.{Token}
-use Rattle.fs_litmus_sites.specs.SiteLabels.{is_word, ends_in}
+use Rattle.fs_litmus_sites.specs.SiteLabels.{end_word}
 
-ends_at : (w : List ℕ) (ts : List Lined) (t : Lined) → ends_in w (ts ++ t ∷ []) ≡ is_word w t
-ends_at w [] t = refl
-ends_at w (u ∷ []) t = refl
-ends_at w (u ∷ v ∷ ts) t = ends_at w (v ∷ ts) t
+ends_at : (ts : List Lined) (t : Lined) → end_word (ts ++ t ∷ []) ≡ end_word (t ∷ [])
+ends_at [] t = refl
+ends_at (u ∷ []) t = refl
+ends_at (u ∷ v ∷ ts) t = ends_at (v ∷ ts) t
 
-pub ends_split : (w : List ℕ) (cell front : List Token) (last : Token) → cell ≡ front ++ last ∷ [] → ends_in w (views cell) ≡ is_word w (view last)
-ends_split w cell front last e = ap (λ l. ends_in w (views l)) e ∙ ap (ends_in w) (map-append view front (last ∷ [])) ∙ ends_at w (views front) (view last)
+pub ends_split : (cell front : List Token) (last : Token) → cell ≡ front ++ last ∷ [] → end_word (views cell) ≡ end_word (view last ∷ [])
+ends_split cell front last e = ap (λ l. end_word (views l)) e ∙ ap end_word (map-append view front (last ∷ [])) ∙ ends_at (views front) (view last)

@@ -1,3 +1,5 @@
 pub mod Stems
 pub mod Ends
-pub mod Lists
+pub mod Harts
+pub mod Clashes
+pub mod Forms

@@ -1,6 +1,7 @@
 -- The site labels of a test: names that stand as labels in a hart and to which no branch of the hart goes.
 use Rattle.std.specs.Prelude.{◌≡◌, ℕ, ◌+◌, zero, suc, List, [], ◌∷◌, ◌++◌, Bool, true, false, ◌&&◌, not, ◌==◌, Option, Some, None, map, if◌then◌else◌}
-use Rattle.std.specs.List.{list_any, filter}
+use Rattle.std.specs.List.{list_any, filter, filter_map}
+use Rattle.std.specs.Borrow.{Bor}
 use Rattle.std.specs.Str.{bytes_eq}
 use Rattle.fs_litmus_tokens.specs.Words.{is_name}
 use Rattle.fs_litmus_tokens.specs.Tokens.{Lined, Word}
@@ -34,19 +35,22 @@ has_instruction _ = true
 
 -- ---- which of them are site labels
 
-abbrev pub is_word : List ℕ → Lined → Bool
-is_word w (Word c v, line) = bytes_eq v w
-is_word w _ = false
+abbrev pub word_of : Lined → Option (List ℕ)
+word_of (Word c w, line) = Some w
+word_of _ = None
 
--- the cell's last token is this word, as a branch's is the label that it goes to
-abbrev pub ends_in : List ℕ → Cell → Bool
-ends_in w [] = false
-ends_in w (t ∷ []) = is_word w t
-ends_in w (t ∷ u ∷ ts) = ends_in w (u ∷ ts)
+-- the word that is the cell's last token, as a branch's is the label that it goes to
+abbrev pub end_word : Cell → Option (List ℕ)
+end_word [] = None
+end_word (t ∷ []) = word_of t
+end_word (t ∷ u ∷ ts) = end_word (u ∷ ts)
 
--- of a hart with these cells: a name in which no cell ends
-abbrev pub is_site : List Cell → Label → Bool
-is_site cells l = is_name l.class && not (list_any (ends_in l.word) cells)
+abbrev pub end_words : List Cell → List (List ℕ)
+end_words cells = filter_map end_word cells
+
+-- of a hart whose cells end in these words: a name that is none of them
+abbrev pub is_site : List (List ℕ) → Label → Bool
+is_site ends l = is_name l.class && not (list_any (λ v. bytes_eq v l.word) ends)
 
 -- ---- where they stand
 
@@ -60,21 +64,21 @@ pub record SiteLabel : Type 0 where
 abbrev pub site_label : ℕ → ℕ → Label → SiteLabel
 site_label hart at l = record { hart = hart; at = at; name = site_name l.word; line = l.line }
 
--- those of one cell of a hart with these cells
-abbrev pub cell_sites : List Cell → ℕ → ℕ → Cell → List SiteLabel
-cell_sites cells hart at cell = map (site_label hart at) (filter (is_site cells) (labels_of cell))
+-- those of one cell of a hart whose cells end in these words
+abbrev pub cell_sites : List (List ℕ) → ℕ → ℕ → Cell → List SiteLabel
+cell_sites ends hart at cell = map (site_label hart at) (filter (is_site ends) (labels_of cell))
 
 abbrev pub position_after : ℕ → Cell → ℕ
 position_after at cell = if has_instruction cell then at + 1 else at
 
 -- those of the last cells of a hart, before which so many instructions stand
-abbrev pub sites_from : List Cell → ℕ → ℕ → List Cell → List SiteLabel
-sites_from cells hart at [] = []
-sites_from cells hart at (c ∷ cs) = cell_sites cells hart at c ++ sites_from cells hart (position_after at c) cs
+abbrev pub sites_from : List (List ℕ) → ℕ → ℕ → List Cell → List SiteLabel
+sites_from ends hart at [] = []
+sites_from ends hart at (c ∷ cs) = cell_sites ends hart at c ++ sites_from ends hart (position_after at c) cs
 
 -- those of one hart
 abbrev pub hart_sites : ℕ → List Cell → List SiteLabel
-hart_sites hart cells = sites_from cells hart 0 cells
+hart_sites hart cells = sites_from (end_words cells) hart 0 cells
 
 -- those of so many harts, in the order of the harts and then of the rows
 abbrev pub first_sites : ℕ → List (List Cell) → List SiteLabel
@@ -99,6 +103,9 @@ label_of l = record { class = l.class; word = l.word.now; line = l.line }
 
 abbrev pub site_label_of : site_labels.SiteLabel → SiteLabel
 site_label_of l = record { hart = l.hart; at = l.at; name = l.name.now; line = l.line }
+
+abbrev pub words_of : List (Bor (List ℕ)) → List (List ℕ)
+words_of words = map (λ w. w.now) words
 
 abbrev pub all_of : List site_labels.SiteLabel → List SiteLabel
 all_of ls = map site_label_of ls

@@ -2,12 +2,12 @@
 
 ghost use Rattle.std.specs.Prelude.{◌≡◌, ◌∷◌, ◌++◌, ◌+◌, ◌^◌, ◌<◌, ◌≤◌, ◌==◌, IfOk, IfSome, IsNone, length, drop};
 ghost use Rattle.std.specs.List.{list_any};
+ghost use Rattle.std.specs.Str.{bytes_eq};
 ghost use Rattle.fs_litmus_tokens.specs.Tokens.{view, views};
-ghost use Rattle.fs_litmus_syntax.specs.Body.{cells_of};
 ghost use Rattle.fs_litmus_syntax.specs.Cells.{is_colon};
 ghost use Rattle.fs_litmus_syntax.specs.Numbered.{is_label};
-ghost use Rattle.fs_litmus_sites.specs.SiteLabels.{is_word, ends_in, is_site, label_of, BeginsWith, BeginsWithNone};
-ghost use Rattle.fs_litmus_sites.specs.SiteLabels.{cell_sites, position_after, all_of};
+ghost use Rattle.fs_litmus_sites.specs.SiteLabels.{is_site, label_of, BeginsWith, BeginsWithNone};
+ghost use Rattle.fs_litmus_sites.specs.SiteLabels.{cell_sites, position_after, words_of, all_of};
 
 use crate::name::site_name;
 use crate::site_label::SiteLabel;
@@ -60,62 +60,42 @@ fn front_label<'a>(tokens: &[Token<'a>]) -> Option<Label<'a>>
     }
 }
 
-/// Is it this word?
-fn is_word(token: &Token<'_>, word: &str) -> bool
-    ensures { result ≡ is_word word.now (view token.now) }
+/// Is it one of the words?
+fn contains(words: &[&str], word: &str) -> bool
+    ensures { result ≡ list_any (λ v. bytes_eq v word.now) (words_of words.now) }
 {
-    match token.kind {
-        Kind::Word(_, text) => text == word,
-        _ => false,
-    }
-}
-
-/// Is its last token this word?
-fn ends_in(cell: &[Token<'_>], word: &str) -> bool
-    ensures { result ≡ ends_in word.now (views cell.now) }
-{
-    match cell.split_last() {
-        Some((last, _)) => is_word(last, word),
-        None => false,
-    }
-}
-
-/// Does one of the cells end in this word?
-fn some_ends_in(cells: &[&[Token<'_>]], word: &str) -> bool
-    ensures { result ≡ list_any (ends_in word.now) (cells_of cells.now) }
-{
-    for cell in cells {
-        if ends_in(cell, word) {
+    for other in words {
+        if *other == word {
             return true;
         }
     }
     false
 }
 
-/// Is the label of a hart with these cells one of a site?
-fn is_site(cells: &[&[Token<'_>]], label: Label<'_>) -> bool
-    ensures { result ≡ is_site (cells_of cells.now) (label_of label.entry) }
+/// Is the label of a hart whose cells end in these words one of a site?
+fn is_site(ends: &[&str], label: Label<'_>) -> bool
+    ensures { result ≡ is_site (words_of ends.now) (label_of label.entry) }
 {
-    label.class.is_name() && !some_ends_in(cells, label.word)
+    label.class.is_name() && !contains(ends, label.word)
 }
 
-/// Appends the site labels of a cell of this hart, which has these cells, and so many instructions before this one; how
-/// many it has behind it. Fails only for want of memory.
+/// Appends the site labels of a cell of this hart, whose cells end in these words and which has so many instructions
+/// before this cell; how many it has behind it. Fails only for want of memory.
 pub(crate) fn push_cell<'a>(
     hart: usize,
     at: usize,
-    cells: &[&[Token<'a>]],
+    ends: &[&str],
     cell: &[Token<'a>],
     sites: &mut Vec<SiteLabel<'a>>,
 ) -> Result<usize, AllocError>
     requires { at + 1 < 2 ^ 64 }
     ensures sites { IfOk result (λ _. all_of sites.new.items
-        ≡ all_of sites.old.items ++ cell_sites (cells_of cells.now) hart at (views cell.now)) }
+        ≡ all_of sites.old.items ++ cell_sites (words_of ends.now) hart at (views cell.now)) }
     ensures position { IfOk result (λ behind. behind ≡ position_after at (views cell.now)) }
 {
     let mut rest = cell;
     while let Some(label) = front_label(rest) {
-        if is_site(cells, label) {
+        if is_site(ends, label) {
             sites.push(SiteLabel {
                 hart,
                 at,

@@ -22,7 +22,7 @@ fn form_sites<'a>(alloc: Global, form: &Form<'_, 'a>) -> Result<Vec<SiteLabel<'a
     let mut sites = Vec::new(alloc);
     for hart in 0..form.columns {
         let cells = form.column(alloc, hart)?;
-        push_hart(hart, &cells, &mut sites)?;
+        push_hart(alloc, hart, &cells, &mut sites)?;
     }
     Ok(sites)
 }
@@ -46,8 +46,8 @@ fn clash(sites: &[SiteLabel<'_>]) -> Option<usize>
 /// Its site's name is the label without the digits and `_` at its end, or all of it where that is nothing.
 ///
 /// F6 in the line of a site label that stands before the same instruction as another, or at the end as another does: a
-/// place is of one site. F3 where the bytes aren't of the form; or F19. Linear in the bytes, but for the labels of a
-/// hart, each of which is looked for in each of the hart's rows.
+/// place is of one site. F3 where the bytes aren't of the form; or F19. Linear in the bytes, for as many instructions as
+/// a test may have.
 pub fn read_site_labels<'a>(alloc: Global, bytes: &'a [u8]) -> Result<Vec<SiteLabel<'a>>, Fault>
     ensures ok { IfOk result (λ sites. HasSites bytes.now (all_of sites.items)) }
     ensures err { IfErr result (λ f. f ≢ Fault.Memory → IsSiteFault bytes.now f) }

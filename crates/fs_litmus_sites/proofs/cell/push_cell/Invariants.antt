@@ -1,12 +1,11 @@
 use Rattle.std.proofs.Common.{◌≡◌, ◌++◌, length}
 use Rattle.fs_litmus_tokens.specs.Tokens.{views}
-use Rattle.fs_litmus_syntax.specs.Body.{cells_of}
-use Rattle.fs_litmus_sites.specs.SiteLabels.{cell_sites, has_instruction, all_of}
+use Rattle.fs_litmus_sites.specs.SiteLabels.{cell_sites, has_instruction, words_of, all_of}
 use Rattle.fs_litmus_sites.proofs.cell.push_cell.Given as goal
 
 abbrev pub invariant-loop-label : goal.invariant-loop-label
 invariant-loop-label l = record {
-  sites : all_of l.sites.items ++ cell_sites (cells_of l.cells) l.hart l.at (views l.rest) ≡ all_of l.initial.sites.items ++ cell_sites (cells_of l.cells) l.hart l.at (views l.cell);
+  sites : all_of l.sites.items ++ cell_sites (words_of l.ends) l.hart l.at (views l.rest) ≡ all_of l.initial.sites.items ++ cell_sites (words_of l.ends) l.hart l.at (views l.cell);
   instruction : has_instruction (views l.rest) ≡ has_instruction (views l.cell);
 }
 
