@@ -1,7 +1,6 @@
 -- What `solve --sites` prints.
-use Rattle.std.specs.Prelude.{ℕ, Bool, true, false, Option, None, Some, List, [], ◌∷◌, ◌++◌, codes, map, zip, string_bytes, option_map, unwrap_or, slice_get}
+use Rattle.std.specs.Prelude.{ℕ, Bool, true, false, Option, None, Some, List, [], ◌∷◌, ◌++◌, codes, string_bytes, option_map, unwrap_or, slice_get}
 use Rattle.std.specs.Fmt.{decimal}
-use Rattle.std.specs.List.{flat_map}
 use Rattle.serde_json.specs.Data.{Data, object, string}
 use Rattle.fs_kinds.specs.declared.kind.Kind.{Kind}
 use Rattle.fs_kinds.specs.declared.placement.Entry.{Entry}
@@ -27,10 +26,14 @@ abbrev pub site_line : List ℕ → Option Kind → List ℕ
 site_line name None = []
 site_line name (Some kind) = line (codes "site " ++ name ++ codes " " ++ word kind)
 
--- `fenced`, the cost, and the sites that have a fence, in the order of their numbers
+-- those of the sites of these names, in their order, each with the fence of its entry
+abbrev pub sites_lines : List (List ℕ) → List Entry → List ℕ
+sites_lines (name ∷ names) (e ∷ p) = site_line name e.kind ++ sites_lines names p
+sites_lines _ _ = []
+
+-- `fenced`, the cost, and the sites that have a fence
 abbrev pub fenced_lines : ℕ → List (List ℕ) → List Entry → List ℕ
-fenced_lines cost names p =
-    line (codes "fenced " ++ decimal cost) ++ flat_map (λ s. site_line s.0 s.1.kind) (zip names p)
+fenced_lines cost names p = line (codes "fenced " ++ decimal cost) ++ sites_lines names p
 
 -- `none`, the file as messages show its name, and an execution that shows the outcome with rw,rw at every site
 abbrev pub none_lines : List ℕ → Witness → List ℕ
@@ -49,11 +52,15 @@ abbrev pub site_values : List ℕ → Option Kind → List Data
 site_values name None = []
 site_values name (Some kind) = site_value name kind ∷ []
 
+abbrev pub sites_values : List (List ℕ) → List Entry → List Data
+sites_values (name ∷ names) (e ∷ p) = site_values name e.kind ++ sites_values names p
+sites_values _ _ = []
+
 abbrev pub fenced_value : ℕ → List (List ℕ) → List Entry → Data
 fenced_value cost names p = object (members_of (
     (codes "answer", string (codes "fenced"))
     ∷ (codes "cost", number cost)
-    ∷ (codes "sites", array_of (flat_map (λ s. site_values s.0 s.1.kind) (zip names p)))
+    ∷ (codes "sites", array_of (sites_values names p))
     ∷ []))
 
 abbrev pub none_value : List ℕ → Witness → Data

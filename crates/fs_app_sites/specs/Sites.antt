@@ -1,6 +1,6 @@
 -- Which question files ask whose labels name sites.
-use Rattle.std.specs.Prelude.{◌≡◌, ◌⊎◌, ℕ, ◌/◌, ◌%◌, true, false, Option, None, Some, IsSome, unwrap_or, List, [], ◌∷◌, ◌++◌, map, fold, length, position, string_bytes}
-use Rattle.std.specs.List.{range_with_len}
+use Rattle.std.specs.Prelude.{◌≡◌, ◌⊎◌, ℕ, ◌/◌, ◌%◌, true, false, Option, None, Some, IsSome, unwrap_or, List, [], ◌∷◌, ◌++◌, map, fold, length, string_bytes}
+use Rattle.std.specs.List.{position_from, range_with_len}
 use Rattle.std.specs.Str.{bytes_eq}
 use Rattle.serde_json.specs.Find.{get_member}
 use Rattle.fs_kinds.specs.declared.fault.Fault.{Fault}
@@ -57,7 +57,7 @@ AreContents _ _ = ⊥
 
 -- the number of the site of this name, if it is one of these
 abbrev pub number_of : List (List ℕ) → List ℕ → Option ℕ
-number_of names name = position (λ known. bytes_eq known name) names
+number_of names name = position_from (λ known. bytes_eq known name) 0 names
 
 abbrev pub appended : List (List ℕ) → List ℕ → Option ℕ → List (List ℕ)
 appended names name None = names ++ name ∷ []

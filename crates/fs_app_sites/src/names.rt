@@ -1,7 +1,6 @@
 //! The names of sites, and their numbers.
 
-ghost use Rattle.std.specs.Prelude.{◌≡◌, map, position, string_bytes, OnOk, IfOk};
-ghost use Rattle.std.specs.Str.{bytes_eq};
+ghost use Rattle.std.specs.Prelude.{◌≡◌, map, string_bytes, OnOk, IfOk};
 ghost use Rattle.fs_app_sites.specs.Sites.{copy_value, names_of, number_of, with_copies, with_name};
 
 use crate::content::{Content, SiteCopy};
@@ -11,7 +10,12 @@ use std::alloc::{AllocError, Global};
 pub(crate) fn number_of(names: &[String], name: &str) -> Option<usize>
     ensures { result ≡ number_of (map string_bytes names.now) name.now }
 {
-    names.iter().position(|known| known.as_str() == name)
+    for (number, known) in names.iter().enumerate() {
+        if known.as_str() == name {
+            return Some(number);
+        }
+    }
+    None
 }
 
 /// Appends the name, unless it is there.

@@ -6,7 +6,7 @@ ghost use Rattle.fs_kinds.specs.PriceTable.{IsPriceTable};
 ghost use Rattle.fs_kinds.specs.Slot.{is_rising};
 ghost use Rattle.fs_kinds.specs.declared.fault.Fault.TheVariants.{Memory};
 ghost use Rattle.fs_model.specs.Test.{IsTest};
-ghost use Rattle.fs_app_sites.specs.Sites.{AreSound, copy_value, key, offer_of, part_of, place_of, question_of};
+ghost use Rattle.fs_app_sites.specs.Sites.{copy_value, key, offer_of, part_of, place_of, question_of};
 ghost use Rattle.fs_app_sites.specs.Sites.{most_sites, places_of};
 
 use crate::content::{Content, SiteCopy};

@@ -1,13 +1,12 @@
 //! An answer in print: lines, or a JSON object.
 
-ghost use Rattle.std.specs.Prelude.{◌≡◌, ◌++◌, map, zip, string_bytes, IfOk, OnOk, false};
-ghost use Rattle.std.specs.List.{flat_map};
+ghost use Rattle.std.specs.Prelude.{◌≡◌, ◌++◌, map, string_bytes, IfOk, OnOk};
 ghost use Rattle.serde_json.specs.View.{view};
-ghost use Rattle.serde_json.specs.Written.{has_float};
-ghost use Rattle.fs_report.specs.Given.{given};
+ghost use Rattle.fs_report.specs.Objects.{json_line};
 ghost use Rattle.fs_cert_evidence.specs.Texts.{array_of};
 ghost use Rattle.fs_app_sites.specs.Printed.{answer_text, fenced_lines, fenced_value, lines_of, name_at};
-ghost use Rattle.fs_app_sites.specs.Printed.{none_lines, none_value, site_line, site_value, site_values, value_of};
+ghost use Rattle.fs_app_sites.specs.Printed.{none_lines, none_value, site_line, site_value, site_values, sites_lines};
+ghost use Rattle.fs_app_sites.specs.Printed.{sites_values, value_of};
 
 use crate::content::File;
 use fs_app_error_messages::shown_name;
@@ -40,6 +39,22 @@ fn write_site(name: &str, kind: Option<Kind>, text: &mut String) -> Result<(), A
     Ok(())
 }
 
+/// Appends the lines of the sites of these names, each with the fence of its entry.
+fn write_sites(names: &[String], entries: &[Entry], text: &mut String) -> Result<(), AllocError>
+    ensures { OnOk result (string_bytes text.new
+        ≡ string_bytes text.old ++ sites_lines (map string_bytes names.now) entries.now) }
+{
+    let mut names = names;
+    for entry in entries {
+        let Some((name, later)) = names.split_first() else {
+            return Ok(());
+        };
+        write_site(name.as_str(), entry.kind, text)?;
+        names = later;
+    }
+    Ok(())
+}
+
 /// The line `fenced` with the cost, and below it a line for each site that has a fence.
 fn fenced_text(
     alloc: Global,
@@ -50,9 +65,7 @@ fn fenced_text(
     ensures { IfOk result (λ text. string_bytes text ≡ fenced_lines cost (map string_bytes names.now) entries.now) }
 {
     let mut text = format!(in alloc; "fenced {}\n", cost)?;
-    for (name, entry) in names.iter().zip(entries) {
-        write_site(name.as_str(), entry.kind, &mut text)?;
-    }
+    write_sites(names, entries, &mut text)?;
     Ok(text)
 }
 
@@ -107,15 +120,34 @@ fn push_site(
     Ok(())
 }
 
+/// Appends the objects of the fences of the sites of these names, each with the fence of its entry.
+fn push_sites(
+    alloc: Global,
+    names: &[String],
+    entries: &[Entry],
+    values: &mut Vec<Value>,
+) -> Result<(), AllocError>
+    ensures { OnOk result (map view values.new.items
+        ≡ map view values.old.items ++ sites_values (map string_bytes names.now) entries.now) }
+{
+    let mut names = names;
+    for entry in entries {
+        let Some((name, later)) = names.split_first() else {
+            return Ok(());
+        };
+        push_site(alloc, name.as_str(), entry.kind, values)?;
+        names = later;
+    }
+    Ok(())
+}
+
 /// The array of the sites' fences.
 fn sites_value(alloc: Global, names: &[String], entries: &[Entry]) -> Result<Value, AllocError>
     ensures { IfOk result (λ value. view value
-        ≡ array_of (flat_map (λ s. site_values s.0 s.1.kind) (zip (map string_bytes names.now) entries.now))) }
+        ≡ array_of (sites_values (map string_bytes names.now) entries.now)) }
 {
     let mut values = Vec::new(alloc);
-    for (name, entry) in names.iter().zip(entries) {
-        push_site(alloc, name.as_str(), entry.kind, &mut values)?;
-    }
+    push_sites(alloc, names, entries, &mut values)?;
     Ok(Value::from(values))
 }
 

@@ -4,7 +4,7 @@ ghost use Rattle.std.specs.Prelude.{◌≡◌, ◌≢◌, ◌≤◌, map, length
 ghost use Rattle.fs_kinds.specs.declared.fault.Fault.TheVariants.{Memory, NodeLimit};
 ghost use Rattle.fs_kinds.specs.PriceTable.{IsPriceTable};
 ghost use Rattle.fs_sites.specs.Answers.{IsAnswer, IsSolveFault};
-ghost use Rattle.fs_app_sites.specs.Printed.{status_of};
+ghost use Rattle.fs_app_sites.specs.Printed.{answer_text, status_of};
 ghost use Rattle.fs_app_sites.specs.Sites.{AreContents, AreSitePrices, IsFilesFault, IsSound, names_of, question_of};
 ghost use Rattle.fs_app_sites.specs.Solved.{IsFirstSitesFault, IsSolved};
 

@@ -1,0 +1,3 @@
+pub mod Asked
+pub mod Faults
+pub mod Offered
