@@ -13,11 +13,12 @@ use Rattle.fs_sites.specs.Questions.{Part, Question, image}
 
 -- with these fences of the sites, each at all its places, the program of some file shows its outcome
 abbrev pub ShowsSome : List Part → List Entry → Type 0
-ShowsSome parts p = (number : ℕ) × (part : Part) × (slice_get parts number ≡ Some part)
+ShowsSome parts p =
+    (number : ℕ) × (part : Part) × (slice_get parts number ≡ Some part)
     × Allows (fenced (program_of part.test) (image part.places p)) (outcome_of part.test)
 
--- With these fences no program shows its outcome, with any better ones some program does. Or some program does whatever
--- stands at the sites.
+-- With these fences no program shows its outcome, and with any better ones some program does; or some program does
+-- whatever stands at the sites.
 abbrev pub IsTrueOfSites : Question → Answer → Type 0
 IsTrueOfSites q (answer.Fenced p n) =
     (ShowsSome q.parts p → ⊥)
