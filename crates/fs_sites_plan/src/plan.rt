@@ -1,6 +1,7 @@
 //! Finds the first of the cheapest placements that break all bars.
 
-ghost use Rattle.std.specs.Prelude.{◌≢◌, ◌≡◌, ◌<◌, ◌≤◌, IsTrue, IfOk, IfErr, MatchOption, IsOkUnless, false, None, length, option_copied};
+ghost use Rattle.std.specs.Prelude.{◌≢◌, ◌≡◌, ◌<◌, ◌≤◌, false, None, IsTrue, IfOk, IfErr, IsOkUnless, MatchOption};
+ghost use Rattle.std.specs.Prelude.{length, option_copied};
 ghost use Rattle.fs_kinds.specs.declared.fault.Fault.TheVariants.{Memory, NodeLimit};
 ghost use Rattle.fs_kinds.specs.Placement.{has_slot, with_kind};
 ghost use Rattle.fs_board_offers.specs.Offers.{IsPlacement};
