@@ -128,12 +128,13 @@ unbroken parts offers p number part witness bar each at shown kept same r placem
 
 -- the same of what `bar_of` gives
 pub bar-given : {E : Type 0} (parts : List Part) (offers : Offers) (number n : ℕ) (witness : Shown) (other : Part) (places : List Place) (widths : List Pairs)
-    → All IsPart parts → IsShownBySome parts number witness → places ≡ (get_or parts number other).places → widths ≡ witness.widths → n ≡ length offers
+    → All IsPart parts → IsShownBySome parts number witness → other ≡ get_or parts number other → places ≡ other.places
+    → widths ≡ witness.widths → n ≡ length offers
     → (r : Result (List Pairs) E) → IfOk r (IsBar places widths) → IfOk r (λ bar. length bar ≡ n) → IfOk r (IsBarOf parts offers)
-bar-given parts offers number n witness other places widths each shown at are sites (Err e) is same = tt
-bar-given parts offers number n witness other places widths each shown at are sites (Ok bar) is same =
+bar-given parts offers number n witness other places widths each shown read at are sites (Err e) is same = tt
+bar-given parts offers number n witness other places widths each shown read at are sites (Ok bar) is same =
     let part = shown.1.0 in
-    let here = at ∙ ap (λ (x : Part). x.places) (get_or_from_slice_get parts number part other shown.1.1) in
+    let here = at ∙ ap (λ (x : Part). x.places) (read ∙ get_or_from_slice_get parts number part other shown.1.1) in
     unbroken parts offers shown.0 number part witness bar each shown.1.1 shown.1.2
     (subst (λ ws. IsBar part.places ws bar) are (subst (λ ps. IsBar ps widths bar) here is)) (same ∙ sites)
 
@@ -162,15 +163,15 @@ module _ (parts : List Part) (p : List Entry) where
       ]
 
 -- what holds where nothing was found holds where nothing is there
-pub none-found : {A : Type 0} {P : Type 0} {Q : A → Type 0} (found : Option A) → MatchOption found P Q → is_some found ≡ false → P
-none-found None h none = h
-none-found (Some x) h none = absurd (true≢false none)
+pub none-found : {A : Type 0} (P : Type 0) (Q : A → Type 0) (found : Option A) → MatchOption found P Q → is_some found ≡ false → P
+none-found P Q None h none = h
+none-found P Q (Some x) h none = absurd (true≢false none)
 
-pub none-follows : {A E : Type 0} {P R : Type 0} {Q : A → Type 0} (r : Result (Option A) E) → (P → R)
+pub none-follows : {A E : Type 0} (P R : Type 0) (Q : A → Type 0) (r : Result (Option A) E) → (P → R)
     → IfOk r (λ found. MatchOption found P Q) → IfOk r (λ found. MatchOption found R Q)
-none-follows (Err e) f h = tt
-none-follows (Ok None) f h = f h
-none-follows (Ok (Some x)) f h = h
+none-follows P R Q (Err e) f h = tt
+none-follows P R Q (Ok None) f h = f h
+none-follows P R Q (Ok (Some x)) f h = h
 
 -- the number of what is shown is one of a test
 pub shown-low : (parts : List Part) (p : List Entry) (number : ℕ) (witness : Shown) → IsShownIn parts p number witness → number ≤ length parts

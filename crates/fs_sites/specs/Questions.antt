@@ -13,6 +13,7 @@ use Rattle.fs_model.specs.Allows.{Allows}
 use Rattle.fs_model.specs.Test.{IsBounded, IsStart}
 use Rattle.fs_board_offers.specs.Offers.{Offers, slots, is_better, IsPlacement}
 use Rattle.fs_board_offers.specs.Questions.{HasTop}
+use Rattle.fs_sites_plan.specs.Plans.{ArePlain}
 use Rattle.fs_sites.specs.declared.question.Place.{Place}
 
 -- a test, whose outcome is to be ruled out, with its places
@@ -58,7 +59,8 @@ pub record IsPart (part : Part) : Type 0 where
   pub bounded : IsBounded part.test
   pub starts : All IsStart part.test.starts
 
--- rw,rw is offered at each site
+-- rw,rw is offered at each site, and no kind is written there
 pub record IsQuestion (q : Question) : Type 0 where
   pub parts : All IsPart q.parts
   pub top : HasTop q.offers
+  pub plain : ArePlain q.offers

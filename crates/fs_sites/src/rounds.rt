@@ -7,6 +7,7 @@ ghost use Rattle.fs_board_offers.specs.Offers.{cost};
 ghost use Rattle.fs_board_offers.specs.Questions.{HasTop};
 ghost use Rattle.fs_cert_evidence.specs.CandidateFaults.{IsCandidateFault};
 ghost use Rattle.fs_judge.specs.Verdicts.{IsVerdict};
+ghost use Rattle.fs_sites_plan.specs.Plans.{ArePlain};
 ghost use Rattle.fs_sites.specs.Questions.{AllowsIn, IsPart, IsQuestion, image, top};
 ghost use Rattle.fs_sites.specs.Answers.{IsAnswer, IsShownIn, IsSolveFault, IsPartFault};
 ghost use Rattle.fs_sites.specs.inner.Bars.{IsBarOf, IsShownBySome, ForbidBetween};
@@ -170,6 +171,7 @@ fn by_rounds(
 ) -> Result<Answer, Fault>
     requires parts { All IsPart parts.now }
     requires top { HasTop offers.now }
+    requires plain { ArePlain offers.now }
     requires same { judges.old ≡ map (λ part. part.test) parts.now }
     requires forbidden { AllowsIn parts.now (top offers.now) → ⊥ }
     ensures ok { IfOk result (IsAnswer (record { parts = parts.now; offers = offers.now })) }

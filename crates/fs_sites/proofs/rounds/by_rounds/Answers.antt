@@ -1,4 +1,4 @@
-use Rattle.std.proofs.Common.{ℕ, Option, List, MatchOption, ◌×◌, ◌∙◌, refl, sym, subst, arith}
+use Rattle.std.proofs.Common.{ℕ, Option, List, MatchOption, ◌∙◌, refl, sym, subst, arith}
 use Rattle.fs_kinds.specs.declared.placement.Entry.{Entry}
 use Rattle.fs_cert_evidence.specs.Evidence.{Shown}
 use Rattle.fs_sites_plan.specs.Plans.{IsFirstBreaking, NoneBreaks}
