@@ -4,3 +4,4 @@ pub mod Harts
 pub mod Clashes
 pub mod Forms
 pub mod Branches
+pub mod Standing

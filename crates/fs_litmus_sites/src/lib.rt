@@ -9,6 +9,6 @@ mod name;
 mod reader;
 mod site_label;
 
-pub use law::branches_go_elsewhere;
+pub use law::site_labels_stand_free;
 pub use reader::read_site_labels;
 pub use site_label::SiteLabel;
