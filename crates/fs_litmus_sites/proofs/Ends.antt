@@ -1,5 +1,5 @@
 -- The last token of a cell.
-use Rattle.std.proofs.Common.{◌≡◌, List, [], ◌∷◌, ◌++◌, refl, ap, sym, ◌∙◌, ℕ}
+use Rattle.std.proofs.Common.{◌≡◌, List, [], ◌∷◌, ◌++◌, refl, ap, ◌∙◌}
 use Rattle.std.proofs.lemmas.List.{map-append}
 use Rattle.fs_litmus_tokens.specs.Tokens.{Lined, view, views}
 use Rattle.fs_litmus_tokens.specs.declared.token.Token.{Token}

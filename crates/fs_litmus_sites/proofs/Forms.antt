@@ -1,5 +1,5 @@
 -- The form of a text that is known to have one.
-use Rattle.std.proofs.Common.{◌≡◌, ℕ, List, [], ◌∷◌, ◌++◌, Bool, true, Result, Ok, Err, IfErr, sym, subst, append-nil, ◌∙◌}
+use Rattle.std.proofs.Common.{◌≡◌, ℕ, List, [], ◌∷◌, Bool, true, Result, Ok, Err, IfErr, sym, subst, append-nil, ◌∙◌}
 use Rattle.std.specs.Result.{IsErrAnd}
 use Rattle.fs_kinds.specs.declared.fault.Fault.{Fault}
 use Rattle.fs_litmus_tokens.specs.Tokens.{Lined}

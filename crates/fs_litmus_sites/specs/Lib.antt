@@ -1,3 +1,4 @@
 pub mod SiteName
 pub mod SiteLabels
 pub mod Sited
+pub mod Standing

@@ -15,7 +15,7 @@ use fs_litmus_tokens::{Class, Kind, Mark, Token};
 use std::alloc::AllocError;
 
 /// A label: its word, what that may be read as, and its line.
-#[derive(Clone, Copy, Debug)]
+#[derive(Clone, Copy)]
 pub(crate) struct Label<'a> {
     pub(crate) class: Class,
     pub(crate) word: &'a str,

@@ -4,9 +4,11 @@
 
 mod cell;
 mod hart;
+mod law;
 mod name;
 mod reader;
 mod site_label;
 
+pub use law::site_labels_stand_free;
 pub use reader::read_site_labels;
 pub use site_label::SiteLabel;

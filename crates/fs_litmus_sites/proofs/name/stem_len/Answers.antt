@@ -1,4 +1,4 @@
-use Rattle.std.proofs.Common.{◌+◌, ◌-◌, slice_index, sym, ap, ◌∙◌, arith}
+use Rattle.std.proofs.Common.{◌-◌, slice_index, sym, ap, ◌∙◌, arith}
 use Rattle.std.proofs.lemmas.Str.{IsCharBoundary-before_ascii}
 use Rattle.fs_litmus_sites.specs.SiteName.{is_copy_byte}
 use Rattle.fs_litmus_sites.proofs.Stems.{stem_shorter, stem_taken, copy_is_ascii}
