@@ -136,7 +136,12 @@ fn is_before(slot: Slot, other: Slot) -> bool
 fn is_before_all(slot: Slot, copies: &[SiteCopy]) -> bool
     ensures { result ≡ list_all (is_before slot) (slots_of (map copy_value copies.now)) }
 {
-    copies.iter().all(|copy| is_before(slot, copy.slot))
+    for copy in copies {
+        if !is_before(slot, copy.slot) {
+            return false;
+        }
+    }
+    true
 }
 
 /// Do the slots rise? It calls itself once for each copy, of which a test has some 300 at most.
