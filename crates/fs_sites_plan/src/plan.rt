@@ -144,7 +144,9 @@ fn empty_at(offer: &Offer) -> Entry
 }
 
 /// Of the placements that the offers allow the cheapest that breaks all bars, and of these the first; none where no
-/// placement does. F16 where that isn't found out in so many steps; else the error is F19.
+/// placement does. A bar has the pairs that an execution keeps at each site, in order; no kind may be written at any
+/// site. F16 where that isn't found out in so many steps, each of which takes time of bars, sites and kinds; else the
+/// error is F19.
 pub fn first_breaking(
     alloc: Global,
     offers: &Offers,
