@@ -1,5 +1,5 @@
 -- A question of one test in which each slot is a site.
-use Rattle.std.proofs.Common.{◌≡◌, ◌↔◌, ℕ, zero, suc, ◌+◌, Option, None, Some, option_and_then, List, [], ◌∷◌, map, drop, slice_get, refl, sym, ap, ap₂, subst, ◌∙◌, arith}
+use Rattle.std.proofs.Common.{◌≡◌, ◌↔◌, ℕ, zero, suc, ◌+◌, Option, Some, option_and_then, List, [], ◌∷◌, map, drop, slice_get, refl, sym, ap, ap₂, subst, arith}
 use Rattle.std.specs.List.{enumerate_from}
 use Rattle.fs_kinds.specs.declared.placement.Entry.{Entry}
 use Rattle.fs_kinds.specs.declared.slot.Slot.{Slot}
@@ -8,7 +8,7 @@ use Rattle.fs_model.specs.declared.test.Test.{Test}
 use Rattle.fs_model.specs.Allows.{Allows}
 use Rattle.fs_board_offers.specs.Offers.{Offers, slots, IsCheapest}
 use Rattle.fs_sites.specs.Alone.{alone, place_at, places_at}
-use Rattle.fs_sites.specs.Questions.{Part, AllowsIn, IsCheapestIn, image, kind_of}
+use Rattle.fs_sites.specs.Questions.{Part, AllowsIn, IsCheapestIn, image}
 
 head-dropped : {A : Type 0} (all : List A) (k : ℕ) (x : A) (xs : List A) → drop k all ≡ x ∷ xs → slice_get all k ≡ Some x
 head-dropped [] zero x xs rest = absurd (cc)

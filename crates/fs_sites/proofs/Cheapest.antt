@@ -1,6 +1,6 @@
 -- The first placement that breaks all bars, where no test allows its outcome with it.
-use Rattle.std.proofs.Common.{◌≡◌, ℕ, zero, suc, Bool, true, false, ◌&&◌, not, Option, None, Some, List, [], ◌∷◌, ◌++◌, slice_get, inl, inr, refl, sym, subst}
-use Rattle.std.proofs.lemmas.Bool.{and_cases, true≢false, false≢true}
+use Rattle.std.proofs.Common.{◌≡◌, ℕ, zero, suc, Bool, true, false, not, Some, List, [], ◌∷◌, ◌++◌, slice_get, inl, inr, refl, sym, subst}
+use Rattle.std.proofs.lemmas.Bool.{and_cases, true≢false}
 use Rattle.fs_kinds.specs.declared.kind.Kind.TheVariants.{RwRw}
 use Rattle.fs_kinds.specs.declared.placement.Entry.{Entry}
 use Rattle.fs_kinds.proofs.Entries.{slots_of-all_with}
@@ -41,7 +41,10 @@ module _ (parts : List Part) (offers : Offers) (bars : List (List Pairs)) (are :
 
   pub top-allowed : HasTop offers → NoneBreaks offers bars → AllowsIn parts (top offers)
   top-allowed offered none =
-      let placement : IsPlacement offers (top offers) = record { slots = slots_of-all_with (Some RwRw) (slots offers); offered = offered } in
+      let placement : IsPlacement offers (top offers) = record {
+        slots = slots_of-all_with (Some RwRw) (slots offers);
+        offered = offered;
+      } in
       allowed (top offers) placement (none (top offers) placement)
 
   pub cheapest : (p : List Entry) → IsFirstBreaking offers bars p → (AllowsIn parts p → ⊥)
@@ -56,8 +59,8 @@ module _ (parts : List Part) (offers : Offers) (bars : List (List Pairs)) (are :
 pub no-bars : (parts : List Part) (offers : Offers) (bars : List (List Pairs)) → bars ≡ [] → AreBars parts offers bars
 no-bars parts offers bars none = subst (AreBars parts offers) (sym none) (λ k bar at. absurd (cc))
 
-pub bars-more : (parts : List Part) (offers : Offers) (bars : List (List Pairs)) (bar : List Pairs) → AreBars parts offers bars
-    → IsBarOf parts offers bar → AreBars parts offers (bars ++ bar ∷ [])
+pub bars-more : (parts : List Part) (offers : Offers) (bars : List (List Pairs)) (bar : List Pairs)
+    → AreBars parts offers bars → IsBarOf parts offers bar → AreBars parts offers (bars ++ bar ∷ [])
 bars-more parts offers [] bar are is zero other at =
     let same : bar ≡ other = cc in subst (IsBarOf parts offers) same is
 bars-more parts offers [] bar are is (suc k) other at = absurd (cc)

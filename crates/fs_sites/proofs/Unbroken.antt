@@ -1,16 +1,14 @@
 -- A placement that leaves the bar of an execution unbroken allows the outcome that it shows.
-use Rattle.std.proofs.Common.{◌≡◌, ℕ, zero, suc, ◌+◌, ◌<◌, ◌≤◌, Bool, true, false, ◌&&◌, Option, None, Some, option_and_then, is_some, MatchOption, Result, Ok, Err, IfOk, List, [], ◌∷◌, All, length, slice_get, inl, inr, refl, sym, ap, subst, ◌∙◌, arith}
+use Rattle.std.proofs.Common.{◌≡◌, ℕ, zero, suc, ◌+◌, ◌<◌, ◌≤◌, true, false, Option, None, Some, option_and_then, is_some, MatchOption, Result, Ok, Err, IfOk, List, [], ◌∷◌, All, length, slice_get, inl, inr, refl, sym, ap, subst, ◌∙◌, arith}
 use Rattle.std.specs.List.{list_all}
 use Rattle.std.specs.Prelude.{get_or}
 use Rattle.std.proofs.lemmas.Bool.{and_parts, and_from, cases_lt, true≢false}
 use Rattle.std.proofs.lemmas.Option.{slice_get-get_or, slice_get_within, get_or_from_slice_get}
-use Rattle.fs_kinds.specs.declared.kind.Kind.{Kind}
 use Rattle.fs_kinds.specs.declared.placement.Entry.{Entry}
 use Rattle.fs_kinds.specs.declared.slot.Slot.{Slot}
 use Rattle.fs_kinds.specs.Kind.{Pair, ReadRead, ReadWrite, WriteRead, WriteWrite, is_subset}
 use Rattle.fs_kinds.specs.Placement.{pairs_kept, slots_of}
 use Rattle.fs_kinds.specs.Slot.{is_rising}
-use Rattle.fs_model.specs.declared.test.Test.{Test}
 use Rattle.fs_model.specs.Execution.{Execution}
 use Rattle.fs_model.specs.Allows.{Shows, Allows}
 use Rattle.fs_model_laws.proofs.PlacedPairs.{subset_from, subset_at}
@@ -19,7 +17,7 @@ use Rattle.fs_cert_evidence.specs.Evidence.{Shown, IsWitnessAt, keeps, pairs_at,
 use Rattle.fs_cert_evidence.specs.Widths.{Width, width}
 use Rattle.fs_cert_evidence.specs.declared.evidence.Pairs.{Pairs}
 use Rattle.fs_board_offers.specs.Breaks.{fits}
-use Rattle.fs_board_offers.specs.Offers.{Offers, IsPlacement, slots}
+use Rattle.fs_board_offers.specs.Offers.{Offers, slots}
 use Rattle.fs_judge.specs.Verdicts.{IsShownWith}
 use Rattle.fs_sites_plan.specs.Plans.{is_within}
 use Rattle.fs_sites.specs.Questions.{Part, AllowsIn, IsPart, image, kind_of, slots_at}
@@ -58,15 +56,16 @@ keeps-at w s ReadWrite = refl
 keeps-at w s WriteRead = refl
 keeps-at w s WriteWrite = refl
 
-width-there : (w : Width) (p : List Entry) (places : List Place) (k : ℕ) (place : Place) → slice_get places k ≡ Some place
-    → slice_get (widths_of w (slots_of (image places p))) k ≡ Some (pairs_at w place.slot)
+width-there : (w : Width) (p : List Entry) (places : List Place) (k : ℕ) (place : Place)
+    → slice_get places k ≡ Some place → slice_get (widths_of w (slots_of (image places p))) k ≡ Some (pairs_at w place.slot)
 width-there w p [] k place at = absurd (cc)
 width-there w p (x ∷ xs) zero place at = let same : x ≡ place = cc in ap (λ (y : Place). Some (pairs_at w y.slot)) same
 width-there w p (x ∷ xs) (suc k) place at = width-there w p xs k place at
 
 -- an image is within a width where the fence of each place is
 fits-all : (w : Width) (r : List Entry) (places : List Place)
-    → ((k : ℕ) (place : Place) → slice_get places k ≡ Some place → is_subset (pairs_kept (kind_of place.site r)) (w place.slot) ≡ true)
+    → ((k : ℕ) (place : Place) → slice_get places k ≡ Some place
+    → is_subset (pairs_kept (kind_of place.site r)) (w place.slot) ≡ true)
     → list_all (λ entry. is_subset (pairs_kept entry.kind) (w entry.slot)) (image places r) ≡ true
 fits-all w r [] each = refl
 fits-all w r (x ∷ xs) each = and_from _ _ (each 0 x refl) (fits-all w r xs (λ k place at. each (suc k) place at))
@@ -88,8 +87,10 @@ module _ (w : Width) (p r : List Entry) (places : List Place) (widths bar : List
           let pairs = get_or bar place.site all in
           let here = slice_get-get_or bar place.site all inside in
           let fit = fits-at bar r place.site pairs e within here there in
-          let has = kept place.site pairs here k place (pairs_at w place.slot) at (ap (λ ws. slice_get ws k) are ∙ width-there w p places k place at) refl in
-          subset_from (pairs_kept e.kind) (w place.slot) (λ pair k. sym (keeps-at w place.slot pair) ∙ has pair (subset_at (pairs_kept e.kind) (keeps pairs) fit pair k))
+          let wide = ap (λ ws. slice_get ws k) are ∙ width-there w p places k place at in
+          let has = kept place.site pairs here k place (pairs_at w place.slot) at wide refl in
+          subset_from (pairs_kept e.kind) (w place.slot)
+          (λ pair one. sym (keeps-at w place.slot pair) ∙ has pair (subset_at (pairs_kept e.kind) (keeps pairs) fit pair one))
 
   within-width : list_all (λ entry. is_subset (pairs_kept entry.kind) (w entry.slot)) (image places r) ≡ true
   within-width = fits-all w r places fits-place
@@ -118,13 +119,12 @@ length-slots (e ∷ p) (o ∷ offers) same = ap suc (length-slots p offers (cc))
 pub unbroken : (parts : List Part) (offers : Offers) (p : List Entry) (number : ℕ) (part : Part) (witness : Shown) (bar : List Pairs)
     → All IsPart parts → slice_get parts number ≡ Some part → IsShownWith part.test (image part.places p) witness
     → IsBar part.places witness.widths bar → length bar ≡ length offers → IsBarOf parts offers bar
-unbroken parts offers p number part witness bar each at shown kept same r placement within =
-    (
-      number,
-      part,
-      at,
-      (shown.0, shows part p r witness bar shown.0 (part_at parts number part each at) shown.1 kept (same ∙ length-slots r offers placement.slots) within),
-    )
+unbroken parts offers p number part witness bar each at shown kept same r placement within = (
+  number,
+  part,
+  at,
+  (shown.0, shows part p r witness bar shown.0 (part_at parts number part each at) shown.1 kept (same ∙ length-slots r offers placement.slots) within),
+)
 
 -- the same of what `bar_of` gives
 pub bar-given : {E : Type 0} (parts : List Part) (offers : Offers) (number n : ℕ) (witness : Shown) (other : Part) (places : List Place) (widths : List Pairs)

@@ -11,8 +11,8 @@ use Rattle.fs_sites.specs.Questions.{Question, Part, image, top, IsCheapestIn}
 use Rattle.fs_sites.specs.declared.answer.Answer.{Answer}
 use Rattle.fs_sites.specs.declared.answer.Answer.TheVariants as answer
 
--- the witness, whose widths are those at the places, gives an execution that shows the outcome of the test of this number
--- with these fences of the sites
+-- the witness, whose widths are those at the places, gives an execution that shows the outcome of the test of this
+-- number with these fences of the sites
 abbrev pub IsShownIn : List Part → List Entry → ℕ → Shown → Type 0
 IsShownIn parts p number witness =
     (part : Part) × (slice_get parts number ≡ Some part) × IsShownWith part.test (image part.places p) witness

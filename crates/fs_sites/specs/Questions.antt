@@ -1,6 +1,6 @@
--- One fence for a function in all its copies, and several tests in one question. A site is a place in a function, and a
--- place in a test is a copy of it. A placement over sites has an entry for each, in the order of their numbers; the slots
--- of these entries are names only.
+-- One fence for a function in all its copies, and several tests in one question. A site is a place in a function, and
+-- a place in a test is a copy of it. A placement over sites has an entry for each, in the order of their numbers; the
+-- slots of these entries are names only.
 use Rattle.std.specs.Prelude.{◌≡◌, ℕ, true, Option, Some, option_and_then, List, All, map, slice_get}
 use Rattle.fs_kinds.specs.declared.kind.Kind.{Kind}
 use Rattle.fs_kinds.specs.declared.kind.Kind.TheVariants.{RwRw}
@@ -16,7 +16,8 @@ use Rattle.fs_board_offers.specs.Questions.{HasTop}
 use Rattle.fs_sites_plan.specs.Plans.{ArePlain}
 use Rattle.fs_sites.specs.declared.question.Place.{Place}
 
--- a test, whose outcome is to be ruled out, with its places
+-- a test, whose outcome is to be ruled out, with its places: before the instruction of a place's slot stands the fence of
+-- its site
 pub record Part : Type 0 where
   pub test : Test
   pub places : List Place

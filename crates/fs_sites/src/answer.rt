@@ -7,14 +7,8 @@ use fs_kinds::Placement;
 #[derive(Drop)]
 pub enum Answer {
     /// The cheapest placement that forbids each test's outcome, of several the first, and what it costs.
-    Fenced {
-        placement: Placement,
-        cost: u64,
-    },
+    Fenced { placement: Placement, cost: u64 },
     /// No placement does: the witness shows the outcome of the test of this number even with `rw,rw` at each site. Its
     /// widths are those at the test's places.
-    None {
-        part: usize,
-        witness: Witness,
-    },
+    None { part: usize, witness: Witness },
 }

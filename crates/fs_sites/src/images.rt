@@ -48,8 +48,8 @@ fn fill(places: &[Place], placement: &Placement, fences: &mut Placement)
     }
 }
 
-/// What stands in a test with these places: at each the fence of its site. It takes time of places squared. The error is
-/// F19.
+/// What stands in a test with these places: at each the fence of its site. It takes time of places squared. The error
+/// is F19.
 pub(crate) fn image(
     alloc: Global,
     places: &[Place],

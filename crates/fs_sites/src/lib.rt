@@ -1,5 +1,5 @@
-//! One fence for a function in all its copies, and several tests in one question: the cheapest fences of sites that rule
-//! out the outcome of each test.
+//! One fence for a function in all its copies, and several tests in one question: the cheapest fences of sites that
+//! rule out the outcome of each test.
 #![tactic(auto)]
 
 mod answer;

@@ -6,8 +6,8 @@ use fs_model::Test;
 use std::marker::Model;
 use std::sync::Arc;
 
-/// A place in a test, as a copy of a site: before the instruction of this slot stands the fence of the site of this
-/// number.
+/// A place in a test, which is a copy of a site: before the instruction of this slot stands the fence of the site of
+/// this number. Any instruction will do, and a site past the last one has no fence.
 #[derive(Clone, Copy, Debug, PartialEq, Eq)]
 pub struct Place {
     pub slot: Slot,
@@ -34,8 +34,8 @@ impl Model for Part {
     ghost coded = { Prim.hlevel (codes, outcome.the_row.coded) };
 }
 
-/// The tests, and what may stand at the sites: offer number k is that of site number k. The slots of the offers are names
-/// only.
+/// The tests, and what may stand at the sites: offer number k is that of site number k. The slots of the offers are
+/// names only.
 #[derive(Drop)]
 pub struct Question {
     pub parts: List<Part>,

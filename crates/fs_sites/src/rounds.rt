@@ -1,5 +1,5 @@
-//! The answer to a question, in rounds: a plan breaks all bars, and each test judges it; where one allows its outcome, the
-//! execution that shows it makes a new bar.
+//! The answer to a question, in rounds: a plan breaks all bars, and is judged by each test; where one allows its outcome,
+//! the execution that shows it makes a new bar.
 
 ghost use Rattle.std.specs.Prelude.{◌≡◌, ◌≢◌, ◌≤◌, true, map, length, All, IfOk, IfErr, MatchOption, IsOkUnless};
 ghost use Rattle.fs_kinds.specs.declared.fault.Fault.TheVariants.{Memory};
@@ -65,8 +65,8 @@ fn verdict(
     judge.verdict(alloc, &fences, &[])
 }
 
-/// Of the tests from one number up to another the first whose outcome these fences of the sites allow, by its number, and
-/// a witness.
+/// Of the tests from one number up to another the first whose outcome these fences of the sites allow, by its number,
+/// and a witness.
 fn allowing_between(
     alloc: Global,
     parts: &[Part],
@@ -195,8 +195,8 @@ fn by_rounds(
     Err(Fault::NodeLimit)
 }
 
-/// The cheapest fences of the sites that forbid the outcome of each test, and of those the first; or that even `rw,rw` at
-/// each site allows one. F16 where that isn't found in so many rounds, or where a plan takes more steps than so many;
+/// The cheapest fences of the sites that forbid the outcome of each test, and of those the first; or that even `rw,rw`
+/// at each site allows one. F16 where that isn't found in so many rounds, or where a plan takes more steps than so many;
 /// F13 to F15 where a verdict can't be made for the candidates of a test; or F19. The cost is that of a judge for each
 /// test, and in each round that of a plan and of at most one verdict for each test.
 pub fn solve(

@@ -1,4 +1,4 @@
-use Rattle.std.proofs.Common.{◌≡◌, map}
+use Rattle.std.proofs.Common.{◌≡◌}
 use Rattle.fs_sites.specs.inner.Bars.{ForbidBetween}
 use Rattle.fs_sites.proofs.rounds.allowing_between.Given as goal
 

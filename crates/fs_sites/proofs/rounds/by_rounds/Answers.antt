@@ -1,6 +1,7 @@
 use Rattle.std.proofs.Common.{ℕ, Option, List, MatchOption, ◌∙◌, refl, sym, subst, arith}
 use Rattle.fs_kinds.specs.declared.placement.Entry.{Entry}
 use Rattle.fs_cert_evidence.specs.Evidence.{Shown}
+use Rattle.fs_cert_evidence.specs.declared.evidence.Pairs.{Pairs}
 use Rattle.fs_sites_plan.specs.Plans.{IsFirstBreaking, NoneBreaks}
 use Rattle.fs_sites.specs.Answers.{IsAnswer, IsShownIn}
 use Rattle.fs_sites.specs.Questions.{Question, AllowsIn}
@@ -49,7 +50,7 @@ loop-preserved c =
     c.in_ok-allowing.ensures.ok in
     record {
       same = c.in_ok-allowing.ensures.value ∙ c.loop.invariant.same;
-      bars = subst (AreBars parts offers) (sym c.in_ok-push-in-Some-2.ensures.items)
+      bars = subst (AreBars parts offers) (sym {A = List (List Pairs)} c.in_ok-push-in-Some-2.ensures.items)
           (bars-more parts offers c.loop.bars.items c.in_ok-bar_by-in-Some-2.field-0 c.loop.invariant.bars c.in_ok-bar_by-in-Some-2.ensures);
       most = shown-low parts p c.in-Some-2.number c.in-Some-2.witness shown;
     }
