@@ -1,11 +1,10 @@
 -- Where site labels stand among the labels and instructions of their hart.
-use Rattle.std.proofs.Common.{◌≡◌, ℕ, ◌+◌, zero, suc, List, [], ◌∷◌, ◌++◌, drop, map, Option, Some, None, Bool, true, false, ◌&&◌, if◌then◌else◌, refl, sym, ap, ◌∙◌, subst, append_assoc, append-nil, arith}
+use Rattle.std.proofs.Common.{◌≡◌, ℕ, ◌+◌, suc, List, [], ◌∷◌, ◌++◌, drop, map, Option, Some, None, Bool, true, false, ◌&&◌, if◌then◌else◌, refl, sym, ap, ◌∙◌, subst, append_assoc, append-nil, arith}
 use Rattle.std.specs.List.{All, filter}
 use Rattle.std.proofs.lemmas.List.Elements.{All-cons, All-append}
 use Rattle.fs_litmus_tokens.specs.Numbers.{number_of}
-use Rattle.fs_litmus_tokens.specs.Tokens.{Tok, Lined, Word, Sign, Strange}
+use Rattle.fs_litmus_tokens.specs.Tokens.{Lined, Word, Sign, Strange}
 use Rattle.fs_litmus_tokens.specs.declared.word.Class.{Class}
-use Rattle.fs_instr.specs.declared.instr.Instr.{Instr}
 use Rattle.fs_litmus_syntax.specs.Numbered.{is_label}
 use Rattle.fs_litmus_syntax.specs.Cells.{Item, Label, Instruction, is_colon, front_label, AreLabels, none, label, IsCell, labels, instruction, AreCells, empty, next}
 use Rattle.fs_litmus_syntax.specs.Labels.{StandsAt, here, past_label, past_instruction, IsBranch, instruction_count}

@@ -1,7 +1,6 @@
 -- The site labels of a test: names that stand as labels in a hart and to which no branch of the hart goes.
-use Rattle.std.specs.Prelude.{◌≡◌, ℕ, ◌+◌, zero, suc, List, [], ◌∷◌, ◌++◌, Bool, true, false, ◌&&◌, not, ◌==◌, Option, Some, None, map, if◌then◌else◌}
+use Rattle.std.specs.Prelude.{ℕ, ◌+◌, zero, suc, List, [], ◌∷◌, ◌++◌, Bool, true, false, ◌&&◌, not, ◌==◌, Option, Some, None, map, if◌then◌else◌}
 use Rattle.std.specs.List.{list_any, filter, filter_map}
-use Rattle.std.specs.Borrow.{Bor}
 use Rattle.std.specs.Str.{bytes_eq}
 use Rattle.fs_litmus_tokens.specs.Words.{is_name}
 use Rattle.fs_litmus_tokens.specs.Tokens.{Lined, Word}
@@ -11,7 +10,6 @@ use Rattle.fs_litmus_syntax.specs.Cells.{is_colon}
 use Rattle.fs_litmus_syntax.specs.Body.{Cell, column_of}
 use Rattle.fs_litmus_syntax.specs.Form.{Form}
 use Rattle.fs_litmus_sites.specs.SiteName.{site_name}
-use Rattle.fs_litmus_sites.specs.declared.cell.Label as labels
 use Rattle.fs_litmus_sites.specs.declared.site_label.SiteLabel as site_labels
 
 -- ---- the labels of a cell
@@ -35,6 +33,7 @@ has_instruction _ = true
 
 -- ---- which of them are site labels
 
+-- the token's word
 abbrev pub word_of : Lined → Option (List ℕ)
 word_of (Word c w, line) = Some w
 word_of _ = None
@@ -45,6 +44,7 @@ end_word [] = None
 end_word (t ∷ []) = word_of t
 end_word (t ∷ u ∷ ts) = end_word (u ∷ ts)
 
+-- the words in which cells end
 abbrev pub end_words : List Cell → List (List ℕ)
 end_words cells = filter_map end_word cells
 
@@ -61,6 +61,7 @@ pub record SiteLabel : Type 0 where
   pub name : List ℕ
   pub line : ℕ
 
+-- what is told of a label at this position of a hart
 abbrev pub site_label : ℕ → ℕ → Label → SiteLabel
 site_label hart at l = record { hart = hart; at = at; name = site_name l.word; line = l.line }
 
@@ -68,6 +69,7 @@ site_label hart at l = record { hart = hart; at = at; name = site_name l.word; l
 abbrev pub cell_sites : List (List ℕ) → ℕ → ℕ → Cell → List SiteLabel
 cell_sites ends hart at cell = map (site_label hart at) (filter (is_site ends) (labels_of cell))
 
+-- how many instructions stand before what is behind the cell
 abbrev pub position_after : ℕ → Cell → ℕ
 position_after at cell = if has_instruction cell then at + 1 else at
 
@@ -98,26 +100,10 @@ clash (a ∷ b ∷ rest) = if a.hart == b.hart && a.at == b.at then Some b.line 
 
 -- ---- what the reader's values stand for
 
-abbrev pub label_of : labels.Label → Label
-label_of l = record { class = l.class; word = l.word.now; line = l.line }
-
+-- the site label that a value is
 abbrev pub site_label_of : site_labels.SiteLabel → SiteLabel
 site_label_of l = record { hart = l.hart; at = l.at; name = l.name.now; line = l.line }
 
-abbrev pub words_of : List (Bor (List ℕ)) → List (List ℕ)
-words_of words = map (λ w. w.now) words
-
+-- the site labels that values are
 abbrev pub all_of : List site_labels.SiteLabel → List SiteLabel
 all_of ls = map site_label_of ls
-
--- ---- what is at the front of a cell
-
--- a label, and then the rest
-pub record BeginsWith (cell : Cell) (l : Label) (rest : Cell) : Type 0 where
-  pub labels : labels_of cell ≡ l ∷ labels_of rest
-  pub instruction : has_instruction cell ≡ has_instruction rest
-
--- no label; and nothing at all where it is empty
-pub record BeginsWithNone (cell : Cell) (empty : Bool) : Type 0 where
-  pub labels : labels_of cell ≡ []
-  pub instruction : has_instruction cell ≡ not empty

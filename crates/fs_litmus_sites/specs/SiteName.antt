@@ -12,6 +12,7 @@ abbrev pub stem : List ℕ → List ℕ
 stem [] = []
 stem (b ∷ bs) = if list_all is_copy_byte (b ∷ bs) then [] else b ∷ stem bs
 
+-- the name, or the whole word where that is empty
 abbrev pub or_whole : List ℕ → List ℕ → List ℕ
 or_whole word [] = word
 or_whole word (b ∷ bs) = b ∷ bs

@@ -6,8 +6,8 @@ ghost use Rattle.std.specs.Str.{bytes_eq};
 ghost use Rattle.fs_litmus_tokens.specs.Tokens.{view, views};
 ghost use Rattle.fs_litmus_syntax.specs.Cells.{is_colon};
 ghost use Rattle.fs_litmus_syntax.specs.Numbered.{is_label};
-ghost use Rattle.fs_litmus_sites.specs.SiteLabels.{is_site, label_of, BeginsWith, BeginsWithNone};
-ghost use Rattle.fs_litmus_sites.specs.SiteLabels.{cell_sites, position_after, words_of, all_of};
+ghost use Rattle.fs_litmus_sites.specs.SiteLabels.{is_site, cell_sites, position_after, all_of};
+ghost use Rattle.fs_litmus_sites.specs.inner.Fronts.{label_of, words_of, BeginsWith, BeginsWithNone};
 
 use crate::name::site_name;
 use crate::site_label::SiteLabel;

@@ -3,7 +3,8 @@
 ghost use Rattle.std.specs.Prelude.{◌≡◌, ◌++◌, IfOk, option_map};
 ghost use Rattle.fs_litmus_tokens.specs.Tokens.{view, views};
 ghost use Rattle.fs_litmus_syntax.specs.Body.{cells_of};
-ghost use Rattle.fs_litmus_sites.specs.SiteLabels.{word_of, end_word, end_words, sites_from, hart_sites, words_of, all_of};
+ghost use Rattle.fs_litmus_sites.specs.SiteLabels.{word_of, end_word, end_words, sites_from, hart_sites, all_of};
+ghost use Rattle.fs_litmus_sites.specs.inner.Fronts.{words_of};
 
 use crate::cell::push_cell;
 use crate::site_label::SiteLabel;

@@ -8,8 +8,8 @@ ghost use Rattle.fs_litmus_syntax.specs.Cells.{Item, AreCells};
 ghost use Rattle.fs_litmus_sites.specs.SiteLabels.{hart_sites};
 ghost use Rattle.fs_litmus_sites.specs.Standing.{IsSiteLabel};
 
-/// A law: a site label is a label that stands behind as many instructions of its hart as its position says, and to which
-/// no branch of the hart goes. (A word that is a name doesn't read as a number.)
+/// A law: a site label is a label that stands behind as many instructions of its hart as its position says, and to
+/// which no branch of the hart goes. (A word that is a name doesn't read as a number.)
 pub fn site_labels_stand_free()
     ensures { (number : ℕ) (cells : List Cell) (items : List Item) → AreCells cells items
         → All (IsSiteLabel items) (hart_sites number cells) }

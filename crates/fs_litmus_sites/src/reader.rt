@@ -41,13 +41,13 @@ fn clash(sites: &[SiteLabel<'_>]) -> Option<usize>
     None
 }
 
-/// The site labels of a test file that `read_test` reads, in the order of harts and then of their cells. A site label is
-/// a label that begins with a letter or `_` and to which no branch of its hart goes: no cell of the hart ends in it.
+/// The site labels of a test file that `read_test` reads, in the order of harts and then of their cells. A site label
+/// is a label that begins with a letter or `_` and to which no branch of its hart goes: no cell of the hart ends in it.
 /// Its site's name is the label without the digits and `_` at its end, or all of it where that is nothing.
 ///
 /// F6 in the line of a site label that stands before the same instruction as another, or at the end as another does: a
-/// place is of one site. F3 where the bytes aren't of the form; or F19. Linear in the bytes, for as many instructions as
-/// a test may have.
+/// place is of one site. F3 where the bytes aren't of the form; or F19. Linear in the bytes, for as many instructions
+/// as a test may have.
 pub fn read_site_labels<'a>(alloc: Global, bytes: &'a [u8]) -> Result<Vec<SiteLabel<'a>>, Fault>
     ensures ok { IfOk result (λ sites. HasSites bytes.now (all_of sites.items)) }
     ensures err { IfErr result (λ f. f ≢ Fault.Memory → IsSiteFault bytes.now f) }

@@ -1,7 +1,7 @@
 use Rattle.std.proofs.Common.{◌≡◌, drop}
 use Rattle.std.specs.List.{list_any}
 use Rattle.std.specs.Str.{bytes_eq}
-use Rattle.fs_litmus_sites.specs.SiteLabels.{words_of}
+use Rattle.fs_litmus_sites.specs.inner.Fronts.{words_of}
 use Rattle.fs_litmus_sites.proofs.cell.contains.Given as goal
 
 abbrev pub invariant-loop-other : goal.invariant-loop-other

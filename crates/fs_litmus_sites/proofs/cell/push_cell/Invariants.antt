@@ -1,6 +1,7 @@
 use Rattle.std.proofs.Common.{◌≡◌, ◌++◌, length}
 use Rattle.fs_litmus_tokens.specs.Tokens.{views}
-use Rattle.fs_litmus_sites.specs.SiteLabels.{cell_sites, has_instruction, words_of, all_of}
+use Rattle.fs_litmus_sites.specs.SiteLabels.{cell_sites, has_instruction, all_of}
+use Rattle.fs_litmus_sites.specs.inner.Fronts.{words_of}
 use Rattle.fs_litmus_sites.proofs.cell.push_cell.Given as goal
 
 abbrev pub invariant-loop-label : goal.invariant-loop-label

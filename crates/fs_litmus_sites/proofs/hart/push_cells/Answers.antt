@@ -2,7 +2,7 @@ use Rattle.std.proofs.Common.{[], List, get_or, refl}
 use Rattle.std.specs.Borrow.{Bor}
 use Rattle.fs_litmus_tokens.specs.declared.token.Token.{Token}
 use Rattle.fs_litmus_tokens.specs.Tokens.{views}
-use Rattle.fs_litmus_sites.specs.SiteLabels.{words_of}
+use Rattle.fs_litmus_sites.specs.inner.Fronts.{words_of}
 use Rattle.fs_litmus_sites.proofs.Harts.{position_small, sites_next}
 use Rattle.fs_litmus_sites.proofs.hart.push_cells.Goals as goal
 

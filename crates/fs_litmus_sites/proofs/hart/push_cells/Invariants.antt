@@ -1,6 +1,7 @@
 use Rattle.std.proofs.Common.{◌≡◌, ◌≤◌, ◌++◌, drop}
 use Rattle.fs_litmus_syntax.specs.Body.{cells_of}
-use Rattle.fs_litmus_sites.specs.SiteLabels.{sites_from, words_of, all_of}
+use Rattle.fs_litmus_sites.specs.SiteLabels.{sites_from, all_of}
+use Rattle.fs_litmus_sites.specs.inner.Fronts.{words_of}
 use Rattle.fs_litmus_sites.proofs.hart.push_cells.Given as goal
 
 abbrev pub invariant-loop-cell : goal.invariant-loop-cell
