@@ -1,3 +1,4 @@
 pub mod Asked
 pub mod Faults
 pub mod Offered
+pub mod Values

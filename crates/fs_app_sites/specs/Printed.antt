@@ -26,18 +26,19 @@ abbrev pub site_line : List ℕ → Option Kind → List ℕ
 site_line name None = []
 site_line name (Some kind) = line (codes "site " ++ name ++ codes " " ++ word kind)
 
--- those of the sites of these names, in their order, each with the fence of its entry
-abbrev pub sites_lines : List (List ℕ) → List Entry → List ℕ
-sites_lines (name ∷ names) (e ∷ p) = site_line name e.kind ++ sites_lines names p
-sites_lines _ _ = []
+-- those of the entries of a placement, in order, whose sites have these names
+abbrev pub sites_lines : List Entry → List (List ℕ) → List ℕ
+sites_lines [] names = []
+sites_lines (e ∷ p) [] = []
+sites_lines (e ∷ p) (name ∷ names) = site_line name e.kind ++ sites_lines p names
 
 -- `fenced`, the cost, and the sites that have a fence
 abbrev pub fenced_lines : ℕ → List (List ℕ) → List Entry → List ℕ
-fenced_lines cost names p = line (codes "fenced " ++ decimal cost) ++ sites_lines names p
+fenced_lines cost names p = line (codes "fenced " ++ decimal cost) ++ sites_lines p names
 
 -- `none`, the file as messages show its name, and an execution that shows the outcome with rw,rw at every site
 abbrev pub none_lines : List ℕ → Witness → List ℕ
-none_lines name w = line (codes "none") ++ line (name_text name) ++ line (witness_text w)
+none_lines name w = codes "none\n" ++ (name_text name ++ (codes "\n" ++ line (witness_text w)))
 
 abbrev pub lines_of : List File → List (List ℕ) → Answer → List ℕ
 lines_of files names (answer.Fenced p cost) = fenced_lines cost names p
@@ -52,15 +53,16 @@ abbrev pub site_values : List ℕ → Option Kind → List Data
 site_values name None = []
 site_values name (Some kind) = site_value name kind ∷ []
 
-abbrev pub sites_values : List (List ℕ) → List Entry → List Data
-sites_values (name ∷ names) (e ∷ p) = site_values name e.kind ++ sites_values names p
-sites_values _ _ = []
+abbrev pub sites_values : List Entry → List (List ℕ) → List Data
+sites_values [] names = []
+sites_values (e ∷ p) [] = []
+sites_values (e ∷ p) (name ∷ names) = site_values name e.kind ++ sites_values p names
 
 abbrev pub fenced_value : ℕ → List (List ℕ) → List Entry → Data
 fenced_value cost names p = object (members_of (
     (codes "answer", string (codes "fenced"))
     ∷ (codes "cost", number cost)
-    ∷ (codes "sites", array_of (sites_values names p))
+    ∷ (codes "sites", array_of (sites_values p names))
     ∷ []))
 
 abbrev pub none_value : List ℕ → Witness → Data

@@ -90,10 +90,11 @@ fn places_of(alloc: Global, names: &[String], copies: &[SiteCopy]) -> Result<Vec
     ensures { IfOk result (λ places. places.items
         ≡ places_of (map string_bytes names.now) (map copy_value copies.now)) }
 {
-    copies
-        .iter()
-        .map(|copy| place_of(names, copy))
-        .collect(alloc)
+    let mut places = Vec::new(alloc);
+    for copy in copies {
+        places.push(place_of(names, copy))?;
+    }
+    Ok(places)
 }
 
 /// The part of a file in the question.

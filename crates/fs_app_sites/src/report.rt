@@ -42,15 +42,17 @@ fn write_site(name: &str, kind: Option<Kind>, text: &mut String) -> Result<(), A
 /// Appends the lines of the sites of these names, each with the fence of its entry.
 fn write_sites(names: &[String], entries: &[Entry], text: &mut String) -> Result<(), AllocError>
     ensures { OnOk result (string_bytes text.new
-        ≡ string_bytes text.old ++ sites_lines (map string_bytes names.now) entries.now) }
+        ≡ string_bytes text.old ++ sites_lines entries.now (map string_bytes names.now)) }
 {
     let mut names = names;
     for entry in entries {
-        let Some((name, later)) = names.split_first() else {
-            return Ok(());
-        };
-        write_site(name.as_str(), entry.kind, text)?;
-        names = later;
+        match names.split_first() {
+            Some((name, later)) => {
+                write_site(name.as_str(), entry.kind, text)?;
+                names = later;
+            }
+            None => return Ok(()),
+        }
     }
     Ok(())
 }
@@ -128,15 +130,17 @@ fn push_sites(
     values: &mut Vec<Value>,
 ) -> Result<(), AllocError>
     ensures { OnOk result (map view values.new.items
-        ≡ map view values.old.items ++ sites_values (map string_bytes names.now) entries.now) }
+        ≡ map view values.old.items ++ sites_values entries.now (map string_bytes names.now)) }
 {
     let mut names = names;
     for entry in entries {
-        let Some((name, later)) = names.split_first() else {
-            return Ok(());
-        };
-        push_site(alloc, name.as_str(), entry.kind, values)?;
-        names = later;
+        match names.split_first() {
+            Some((name, later)) => {
+                push_site(alloc, name.as_str(), entry.kind, values)?;
+                names = later;
+            }
+            None => return Ok(()),
+        }
     }
     Ok(())
 }
@@ -144,7 +148,7 @@ fn push_sites(
 /// The array of the sites' fences.
 fn sites_value(alloc: Global, names: &[String], entries: &[Entry]) -> Result<Value, AllocError>
     ensures { IfOk result (λ value. view value
-        ≡ array_of (sites_values (map string_bytes names.now) entries.now)) }
+        ≡ array_of (sites_values entries.now (map string_bytes names.now))) }
 {
     let mut values = Vec::new(alloc);
     push_sites(alloc, names, entries, &mut values)?;
