@@ -1,5 +1,5 @@
 -- Which fault is answered first.
-use Rattle.std.proofs.Common.{◌≡◌, ◌≢◌, inl, inr, ℕ, List, sym, subst}
+use Rattle.std.proofs.Common.{◌≡◌, ◌≢◌, inl, inr, ℕ, List, sym, ap, subst, ◌∙◌}
 use Rattle.fs_kinds.specs.declared.fault.Fault.{Fault}
 use Rattle.fs_kinds.specs.declared.fault.Fault.TheVariants.{Memory}
 use Rattle.fs_kinds.specs.PriceTable.{PriceTable}
@@ -20,11 +20,14 @@ module _ (files : List File) (prices : List ℕ) where
       → IsFirstSitesFault files prices f
   first-files f table priced h = elim (is_memory f) [ inl e ↦ first-memory f e | inr n ↦ of_files table priced (h n) ]
 
-  pub first-search : (f : Fault) (table : PriceTable) (contents : List Content) (names : List (List ℕ)) → AreSitePrices prices table
-      → AreContents files contents → names ≡ names_of contents
-      → (f ≢ Memory → IsSolveFault (question_of table names contents) f) → IsFirstSitesFault files prices f
-  first-search f table contents names priced read named h =
+  pub first-search : (f : Fault) (table : PriceTable) (contents first second : List Content) (names third : List (List ℕ))
+      → AreSitePrices prices table → AreContents files contents → first ≡ contents → names ≡ names_of first → second ≡ contents
+      → third ≡ names → (f ≢ Memory → IsSolveFault (question_of table third second) f) → IsFirstSitesFault files prices f
+  first-search f table contents first second names third priced read one named two three h =
       elim (is_memory f) [
         | inl e ↦ first-memory f e
-        | inr n ↦ of_search table contents priced read (subst (λ xs. IsSolveFault (question_of table xs contents) f) named (h n))
+        | inr n ↦ let are : third ≡ names_of contents = three ∙ (named ∙ ap names_of one) in
+          of_search table contents priced read
+          (subst (λ cs. IsSolveFault (question_of table (names_of contents) cs) f) two
+          (subst (λ ns. IsSolveFault (question_of table ns second) f) are (h n)))
       ]

@@ -1,4 +1,5 @@
 pub mod Asked
 pub mod Faults
 pub mod Offered
+pub mod Reading
 pub mod Values

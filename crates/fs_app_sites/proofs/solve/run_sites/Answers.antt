@@ -1,10 +1,8 @@
-use Rattle.std.proofs.Common.{ap, subst, ◌∙◌}
-use Rattle.fs_sites.specs.Answers.{IsAnswer}
+use Rattle.std.proofs.Common.{ap, map, string_bytes}
 use Rattle.fs_app_place_order.proofs.Faults.{IfErr-handed}
-use Rattle.fs_app_sites.specs.Printed.{answer_text}
-use Rattle.fs_app_sites.specs.Sites.{question_of}
 use Rattle.fs_app_sites.specs.Solved.{of_memory}
 use Rattle.fs_app_sites.proofs.Faults.{first-files, first-memory, first-prices, first-search}
+use Rattle.fs_app_sites.proofs.Reading.{solved}
 use Rattle.fs_app_sites.proofs.solve.run_sites.Goals as goal
 
 pub returns-in_err-table-clause-fault : goal.returns-in_err-table-clause-fault
@@ -23,7 +21,8 @@ returns-in_err-names-clause-fault c =
 pub returns-in_err-answer-clause-fault : goal.returns-in_err-answer-clause-fault
 returns-in_err-answer-clause-fault c =
     IfErr-handed c.from_residual-in_err-answer.result _ _ c.from_residual-in_err-answer.ensures.1
-    (first-search _ _ _ _ _ _ c.in_ok-table.ensures.ok c.in_ok-contents.ensures.ok c.in_ok-names.ensures c.in_err-answer.ensures.err)
+    (first-search _ _ _ _ _ _ _ _ _ c.in_ok-table.ensures.ok c.in_ok-contents.ensures.ok c.deref.ensures.value c.in_ok-names.ensures
+    c.deref-2.ensures.value (ap (map string_bytes) c.deref-3.ensures.value) c.in_err-answer.ensures.err)
 
 pub returns-in_err-output-clause-fault : goal.returns-in_err-output-clause-fault
 returns-in_err-output-clause-fault c =
@@ -32,17 +31,6 @@ returns-in_err-output-clause-fault c =
 
 pub returns-clause-ok : goal.returns-clause-ok
 returns-clause-ok c =
-    let named = c.in_ok-names.ensures in
-    let files = c.args.files.now in
-    let contents = c.in_ok-contents.contents.items in
-    let found = c.in_ok-answer.answer in
-    record {
-      contents = contents;
-      table = c.in_ok-table.table;
-      read = c.in_ok-contents.ensures.ok;
-      priced = c.in_ok-table.ensures.ok;
-      found = found;
-      answer = subst (λ names. IsAnswer (question_of c.in_ok-table.table names contents) found) named c.in_ok-answer.ensures.ok;
-      shown = c.in_ok-output.ensures.text ∙ ap (λ names. answer_text c.args.is_json files names found) named;
-      ends = c.in_ok-output.ensures.status;
-    }
+    solved _ _ _ _ _ _ _ _ _ _ _ _ _ c.in_ok-contents.ensures.ok c.in_ok-table.ensures.ok c.deref.ensures.value c.in_ok-names.ensures
+    c.deref-2.ensures.value (ap (map string_bytes) c.deref-3.ensures.value) (ap (map string_bytes) c.deref-4.ensures.value)
+    c.in_ok-answer.ensures.ok c.in_ok-output.ensures.text c.in_ok-output.ensures.status
