@@ -763,154 +763,475 @@ fn words_of(alloc: Global, found: &ArgMatches<'_>, name: &str) -> Result<Vec<Str
     Ok(words)
 }
 
+// ---- the commands, and what each takes
+
+/// A command.
+struct Entry {
+    name: &'static str,
+    about: &'static str,
+    help: &'static str,
+}
+
+/// In the order in which help lists them.
+const COMMANDS: [Entry; 8] = [
+    Entry {
+        name: "test",
+        about: TEST_ABOUT,
+        help: TEST_HELP,
+    },
+    Entry {
+        name: "solve",
+        about: SOLVE_ABOUT,
+        help: SOLVE_HELP,
+    },
+    Entry {
+        name: "audit",
+        about: AUDIT_ABOUT,
+        help: AUDIT_HELP,
+    },
+    Entry {
+        name: "states",
+        about: STATES_ABOUT,
+        help: STATES_HELP,
+    },
+    Entry {
+        name: "place",
+        about: PLACE_ABOUT,
+        help: PLACE_HELP,
+    },
+    Entry {
+        name: "order",
+        about: ORDER_ABOUT,
+        help: ORDER_HELP,
+    },
+    Entry {
+        name: "check",
+        about: CHECK_ABOUT,
+        help: CHECK_HELP,
+    },
+    Entry {
+        name: "completions",
+        about: COMPLETIONS_ABOUT,
+        help: COMPLETIONS_HELP,
+    },
+];
+
+/// What an argument is.
+#[derive(Clone, Copy)]
+enum Form {
+    /// A word that must be there.
+    Word,
+    /// One word or more.
+    Words,
+    /// One file, or any number where that is so taken.
+    Files,
+    /// Any number of words.
+    Fences,
+    /// The name of a shell.
+    Shell,
+    /// A word after `--` by itself.
+    Flag,
+    /// A word after `--`, with a value.
+    Option,
+    /// A word after `--` by itself, or with `=` and a value. By itself its value is `NO_PATH`.
+    Optional,
+    /// How many threads are asked for.
+    Threads,
+    /// How many nodes a search may make.
+    Nodes,
+}
+
+/// An argument of a command. The value is what help calls it, where it has one.
+struct Parameter {
+    command: &'static str,
+    name: &'static str,
+    form: Form,
+    value: &'static str,
+    help: &'static str,
+}
+
+const PARAMETERS: [Parameter; 37] = [
+    Parameter {
+        command: "test",
+        name: "FILE",
+        form: Form::Words,
+        value: "",
+        help: FILES_HELP,
+    },
+    Parameter {
+        command: "test",
+        name: "jobs",
+        form: Form::Threads,
+        value: "N",
+        help: JOBS_HELP,
+    },
+    Parameter {
+        command: "test",
+        name: "json",
+        form: Form::Flag,
+        value: "",
+        help: LINES_HELP,
+    },
+    Parameter {
+        command: "test",
+        name: "expect",
+        form: Form::Optional,
+        value: "LIST",
+        help: EXPECT_HELP,
+    },
+    Parameter {
+        command: "test",
+        name: "why",
+        form: Form::Flag,
+        value: "",
+        help: TEST_WHY_HELP,
+    },
+    Parameter {
+        command: "solve",
+        name: "FILE",
+        form: Form::Files,
+        value: "",
+        help: FILE_HELP,
+    },
+    Parameter {
+        command: "solve",
+        name: "PRICES",
+        form: Form::Word,
+        value: "",
+        help: PRICES_HELP,
+    },
+    Parameter {
+        command: "solve",
+        name: "sites",
+        form: Form::Flag,
+        value: "",
+        help: SITES_HELP,
+    },
+    Parameter {
+        command: "solve",
+        name: "workers",
+        form: Form::Threads,
+        value: "N",
+        help: WORKERS_HELP,
+    },
+    Parameter {
+        command: "solve",
+        name: "nodes",
+        form: Form::Nodes,
+        value: "N",
+        help: NODES_HELP,
+    },
+    Parameter {
+        command: "solve",
+        name: "cert",
+        form: Form::Option,
+        value: "PATH",
+        help: CERT_HELP,
+    },
+    Parameter {
+        command: "solve",
+        name: "json",
+        form: Form::Flag,
+        value: "",
+        help: JSON_HELP,
+    },
+    Parameter {
+        command: "solve",
+        name: "why",
+        form: Form::Flag,
+        value: "",
+        help: WITHOUT_HELP,
+    },
+    Parameter {
+        command: "audit",
+        name: "FILE",
+        form: Form::Files,
+        value: "",
+        help: FILE_HELP,
+    },
+    Parameter {
+        command: "audit",
+        name: "PRICES",
+        form: Form::Word,
+        value: "",
+        help: PRICES_HELP,
+    },
+    Parameter {
+        command: "audit",
+        name: "anew",
+        form: Form::Flag,
+        value: "",
+        help: ANEW_HELP,
+    },
+    Parameter {
+        command: "audit",
+        name: "write",
+        form: Form::Flag,
+        value: "",
+        help: WRITE_HELP,
+    },
+    Parameter {
+        command: "audit",
+        name: "jobs",
+        form: Form::Threads,
+        value: "N",
+        help: JOBS_HELP,
+    },
+    Parameter {
+        command: "audit",
+        name: "nodes",
+        form: Form::Nodes,
+        value: "N",
+        help: NODES_HELP,
+    },
+    Parameter {
+        command: "states",
+        name: "FILE",
+        form: Form::Words,
+        value: "",
+        help: FILES_AND_FENCES_HELP,
+    },
+    Parameter {
+        command: "states",
+        name: "all",
+        form: Form::Flag,
+        value: "",
+        help: ALL_HELP,
+    },
+    Parameter {
+        command: "states",
+        name: "witnesses",
+        form: Form::Flag,
+        value: "",
+        help: WITNESSES_HELP,
+    },
+    Parameter {
+        command: "states",
+        name: "json",
+        form: Form::Flag,
+        value: "",
+        help: STATES_JSON_HELP,
+    },
+    Parameter {
+        command: "states",
+        name: "log",
+        form: Form::Option,
+        value: "LOG",
+        help: LOG_HELP,
+    },
+    Parameter {
+        command: "place",
+        name: "FILE",
+        form: Form::Word,
+        value: "",
+        help: FILE_HELP,
+    },
+    Parameter {
+        command: "place",
+        name: "FENCE",
+        form: Form::Fences,
+        value: "",
+        help: FENCE_HELP,
+    },
+    Parameter {
+        command: "place",
+        name: "prices",
+        form: Form::Option,
+        value: "PRICES",
+        help: PRICES_HELP,
+    },
+    Parameter {
+        command: "order",
+        name: "FILE",
+        form: Form::Word,
+        value: "",
+        help: FILE_HELP,
+    },
+    Parameter {
+        command: "order",
+        name: "WITNESS",
+        form: Form::Word,
+        value: "",
+        help: WITNESS_HELP,
+    },
+    Parameter {
+        command: "order",
+        name: "FENCE",
+        form: Form::Fences,
+        value: "",
+        help: FENCE_HELP,
+    },
+    Parameter {
+        command: "order",
+        name: "why",
+        form: Form::Flag,
+        value: "",
+        help: ORDER_WHY_HELP,
+    },
+    Parameter {
+        command: "check",
+        name: "FILE",
+        form: Form::Word,
+        value: "",
+        help: FILE_HELP,
+    },
+    Parameter {
+        command: "check",
+        name: "PRICES",
+        form: Form::Word,
+        value: "",
+        help: PRICES_HELP,
+    },
+    Parameter {
+        command: "check",
+        name: "CERTIFICATE",
+        form: Form::Word,
+        value: "",
+        help: CERTIFICATE_HELP,
+    },
+    Parameter {
+        command: "check",
+        name: "json",
+        form: Form::Flag,
+        value: "",
+        help: JSON_HELP,
+    },
+    Parameter {
+        command: "check",
+        name: "why",
+        form: Form::Flag,
+        value: "",
+        help: WITHOUT_HELP,
+    },
+    Parameter {
+        command: "completions",
+        name: "SHELL",
+        form: Form::Shell,
+        value: "",
+        help: SHELL_HELP,
+    },
+];
+
+/// Two options of a command that aren't given together.
+struct Conflict {
+    command: &'static str,
+    name: &'static str,
+    other: &'static str,
+}
+
+const CONFLICTS: [Conflict; 8] = [
+    Conflict {
+        command: "test",
+        name: "why",
+        other: "json",
+    },
+    Conflict {
+        command: "solve",
+        name: "why",
+        other: "json",
+    },
+    Conflict {
+        command: "solve",
+        name: "sites",
+        other: "workers",
+    },
+    Conflict {
+        command: "solve",
+        name: "sites",
+        other: "cert",
+    },
+    Conflict {
+        command: "solve",
+        name: "sites",
+        other: "why",
+    },
+    Conflict {
+        command: "audit",
+        name: "write",
+        other: "anew",
+    },
+    Conflict {
+        command: "states",
+        name: "json",
+        other: "log",
+    },
+    Conflict {
+        command: "check",
+        name: "why",
+        other: "json",
+    },
+];
+
 /// The program; `audit` and `solve` each take one file or any number.
 fn whole_command<'a>(
     alloc: Global,
     audits_many: bool,
     solves_many: bool,
 ) -> Result<Command<'a>, AllocError> {
-    let program = Command::new(alloc, "rvfence")
+    let mut program = Command::new(alloc, "rvfence")
         .version(VERSION)
         .about("Fences for RISC-V litmus tests under RVWMO")
         .after_help(PROGRAM_HELP)
         .subcommand_required(true);
-    let program = with_command(Ok(program), test_command(alloc));
-    let program = with_command(program, solve_command(alloc, solves_many));
-    let program = with_command(program, audit_command(alloc, audits_many));
-    let program = with_command(program, states_command(alloc));
-    let program = with_command(program, place_command(alloc));
-    let program = with_command(program, order_command(alloc));
-    let program = with_command(program, check_command(alloc));
-    with_command(program, completions_command(alloc))
+    for entry in &COMMANDS {
+        let many = match entry.name {
+            "audit" => audits_many,
+            "solve" => solves_many,
+            _ => true,
+        };
+        program = program.subcommand(command_of(alloc, entry, many)?)?;
+    }
+    Ok(program)
 }
 
-/// The program with one more command, where memory was there for both.
-fn with_command<'a>(
-    program: Result<Command<'a>, AllocError>,
-    command: Result<Command<'a>, AllocError>,
-) -> Result<Command<'a>, AllocError> {
-    program?.subcommand(command?)
-}
-
-/// The command with one more argument, where memory was there for it so far.
-fn with_argument<'a>(
-    command: Result<Command<'a>, AllocError>,
-    argument: Arg<'a>,
-) -> Result<Command<'a>, AllocError> {
-    command?.arg(argument)
+/// The command, which takes one file or any number.
+fn command_of<'a>(alloc: Global, entry: &Entry, many: bool) -> Result<Command<'a>, AllocError> {
+    let mut command = Command::new(alloc, entry.name)
+        .about(entry.about)
+        .after_help(entry.help);
+    for parameter in &PARAMETERS {
+        if parameter.command == entry.name {
+            command = command.arg(argument_of(alloc, parameter, many)?)?;
+        }
+    }
+    with_voice(alloc, command)
 }
 
 /// The command with what each takes: how much is to be said on standard error.
-fn with_voice<'a>(
+fn with_voice<'a>(alloc: Global, command: Command<'a>) -> Result<Command<'a>, AllocError> {
+    let command = command.arg(flag(alloc, "quiet", QUIET_HELP).short('q'))?;
+    command.arg(flag(alloc, "verbose", VERBOSE_HELP).short('v'))
+}
+
+/// The argument, and what it isn't given with.
+fn argument_of<'a>(
     alloc: Global,
-    command: Result<Command<'a>, AllocError>,
-) -> Result<Command<'a>, AllocError> {
-    let command = with_argument(command, flag(alloc, "quiet", QUIET_HELP).short('q'));
-    with_argument(command, flag(alloc, "verbose", VERBOSE_HELP).short('v'))
+    parameter: &Parameter,
+    many: bool,
+) -> Result<Arg<'a>, AllocError> {
+    let mut argument = argument(alloc, parameter, many);
+    for conflict in &CONFLICTS {
+        if conflict.command == parameter.command && conflict.name == parameter.name {
+            argument = argument.conflicts_with(conflict.other)?;
+        }
+    }
+    Ok(argument)
 }
 
-fn test_command<'a>(alloc: Global) -> Result<Command<'a>, AllocError> {
-    let command = Command::new(alloc, "test")
-        .about(TEST_ABOUT)
-        .after_help(TEST_HELP);
-    let command = with_argument(Ok(command), files(alloc, FILES_HELP));
-    let command = with_argument(command, threads(alloc, "jobs", JOBS_HELP));
-    let command = with_argument(command, flag(alloc, "json", LINES_HELP));
-    let command = with_argument(command, optional(alloc, "expect", "LIST", EXPECT_HELP));
-    let command = with_argument(command, telling(alloc, TEST_WHY_HELP)?);
-    with_voice(alloc, command)
-}
-
-fn states_command<'a>(alloc: Global) -> Result<Command<'a>, AllocError> {
-    let command = Command::new(alloc, "states")
-        .about(STATES_ABOUT)
-        .after_help(STATES_HELP);
-    let command = with_argument(Ok(command), files(alloc, FILES_AND_FENCES_HELP));
-    let command = with_argument(command, flag(alloc, "all", ALL_HELP));
-    let command = with_argument(command, flag(alloc, "witnesses", WITNESSES_HELP));
-    let json = flag(alloc, "json", STATES_JSON_HELP).conflicts_with("log")?;
-    let command = with_argument(command, json);
-    let command = with_argument(command, option(alloc, "log", "LOG", LOG_HELP));
-    with_voice(alloc, command)
-}
-
-fn place_command<'a>(alloc: Global) -> Result<Command<'a>, AllocError> {
-    let command = Command::new(alloc, "place")
-        .about(PLACE_ABOUT)
-        .after_help(PLACE_HELP);
-    let command = with_argument(Ok(command), required(alloc, "FILE", FILE_HELP));
-    let command = with_argument(command, fences(alloc, FENCE_HELP));
-    let command = with_argument(command, option(alloc, "prices", "PRICES", PRICES_HELP));
-    with_voice(alloc, command)
-}
-
-fn order_command<'a>(alloc: Global) -> Result<Command<'a>, AllocError> {
-    let command = Command::new(alloc, "order")
-        .about(ORDER_ABOUT)
-        .after_help(ORDER_HELP);
-    let command = with_argument(Ok(command), required(alloc, "FILE", FILE_HELP));
-    let command = with_argument(command, required(alloc, "WITNESS", WITNESS_HELP));
-    let command = with_argument(command, fences(alloc, FENCE_HELP));
-    let command = with_argument(command, flag(alloc, "why", ORDER_WHY_HELP));
-    with_voice(alloc, command)
-}
-
-fn solve_command<'a>(alloc: Global, solves_many: bool) -> Result<Command<'a>, AllocError> {
-    let command = Command::new(alloc, "solve")
-        .about(SOLVE_ABOUT)
-        .after_help(SOLVE_HELP);
-    let command = with_argument(Ok(command), one_or_many(alloc, solves_many));
-    let command = with_argument(command, required(alloc, "PRICES", PRICES_HELP));
-    let command = with_argument(command, sites_flag(alloc)?);
-    let command = with_argument(command, threads(alloc, "workers", WORKERS_HELP));
-    let command = with_argument(command, nodes(alloc, NODES_HELP));
-    let command = with_argument(command, option(alloc, "cert", "PATH", CERT_HELP));
-    let command = with_argument(command, flag(alloc, "json", JSON_HELP));
-    let command = with_argument(command, telling(alloc, WITHOUT_HELP)?);
-    with_voice(alloc, command)
-}
-
-/// What asks for fences of sites, which are searched by one thread, and have no certificate.
-fn sites_flag<'a>(alloc: Global) -> Result<Arg<'a>, AllocError> {
-    flag(alloc, "sites", SITES_HELP)
-        .conflicts_with("workers")?
-        .conflicts_with("cert")?
-        .conflicts_with("why")
-}
-
-fn audit_command<'a>(alloc: Global, audits_many: bool) -> Result<Command<'a>, AllocError> {
-    let command = Command::new(alloc, "audit")
-        .about(AUDIT_ABOUT)
-        .after_help(AUDIT_HELP);
-    let command = with_argument(Ok(command), one_or_many(alloc, audits_many));
-    let command = with_argument(command, required(alloc, "PRICES", PRICES_HELP));
-    let command = with_argument(command, flag(alloc, "anew", ANEW_HELP));
-    let write = flag(alloc, "write", WRITE_HELP).conflicts_with("anew")?;
-    let command = with_argument(command, write);
-    let command = with_argument(command, threads(alloc, "jobs", JOBS_HELP));
-    let command = with_argument(command, nodes(alloc, NODES_HELP));
-    with_voice(alloc, command)
-}
-
-fn check_command<'a>(alloc: Global) -> Result<Command<'a>, AllocError> {
-    let command = Command::new(alloc, "check")
-        .about(CHECK_ABOUT)
-        .after_help(CHECK_HELP);
-    let command = with_argument(Ok(command), required(alloc, "FILE", FILE_HELP));
-    let command = with_argument(command, required(alloc, "PRICES", PRICES_HELP));
-    let command = with_argument(command, required(alloc, "CERTIFICATE", CERTIFICATE_HELP));
-    let command = with_argument(command, flag(alloc, "json", JSON_HELP));
-    let command = with_argument(command, telling(alloc, WITHOUT_HELP)?);
-    with_voice(alloc, command)
-}
-
-fn completions_command<'a>(alloc: Global) -> Result<Command<'a>, AllocError> {
-    let command = Command::new(alloc, "completions")
-        .about(COMPLETIONS_ABOUT)
-        .after_help(COMPLETIONS_HELP);
-    let shell = required(alloc, "SHELL", SHELL_HELP).value_parser(SHELLS);
-    let command = with_argument(Ok(command), shell);
-    with_voice(alloc, command)
+fn argument<'a>(alloc: Global, parameter: &Parameter, many: bool) -> Arg<'a> {
+    let (name, help) = (parameter.name, parameter.help);
+    match parameter.form {
+        Form::Word => required(alloc, name, help),
+        Form::Words => files(alloc, help),
+        Form::Files => one_or_many(alloc, many),
+        Form::Fences => Arg::new(alloc, name).help(help).num_args(0..),
+        Form::Shell => required(alloc, name, help).value_parser(SHELLS),
+        Form::Flag => flag(alloc, name, help),
+        Form::Option => option(alloc, name, parameter.value, help),
+        Form::Optional => optional(alloc, name, parameter.value, help),
+        Form::Threads => threads(alloc, name, help),
+        Form::Nodes => nodes(alloc, help),
+    }
 }
 
 /// The script by which the shell completes the words of a command line. The error is want of memory.
@@ -947,11 +1268,6 @@ fn flag<'a>(alloc: Global, name: &'a str, help: &'a str) -> Arg<'a> {
         .action(ArgAction::SetTrue)
 }
 
-/// What asks that executions are told, which no JSON has.
-fn telling<'a>(alloc: Global, help: &'a str) -> Result<Arg<'a>, AllocError> {
-    flag(alloc, "why", help).conflicts_with("json")
-}
-
 /// One file, or any number.
 fn one_or_many<'a>(alloc: Global, many: bool) -> Arg<'a> {
     if many {
@@ -967,10 +1283,6 @@ fn files<'a>(alloc: Global, help: &'a str) -> Arg<'a> {
         .help(help)
         .num_args(1..)
         .required(true)
-}
-
-fn fences<'a>(alloc: Global, help: &'a str) -> Arg<'a> {
-    Arg::new(alloc, "FENCE").help(help).num_args(0..)
 }
 
 /// How many threads are asked for.
