@@ -60,8 +60,8 @@ pub(crate) struct Voice {
 
 impl Voice {
     /// What is said for a request, of which some depends on whether standard error is a terminal. `quiet` outdoes all
-    /// else. Whoever writes a test has `test`, `states` and `audit` judge it, and to `solve --sites` there are several, so
-    /// there faults are always explained.
+    /// else. Whoever writes a test has `test`, `states` and `audit` judge it, and `solve --sites` takes several, so there
+    /// faults are always explained.
     fn of(request: &Request<'_>, is_terminal: bool) -> Voice {
         let notes = !request.quiet;
         let judges = matches!(

@@ -27,8 +27,8 @@ const NO_SITE: &str = "note: no file has a label that names a site\n";
 /// What is said where a place has two sites.
 const TWO_SITES: &str = "two labels before one instruction name sites: write `nop` between them";
 
-/// What `solve --sites` answers of its files. The first file that has a fault ends the run: the fault is said here, with
-/// the name of the file, and nothing but its object is printed.
+/// What `solve --sites` answers of its files. The first file that has a fault ends the run: the fault is said here,
+/// with the name of the file, and nothing but its object is printed.
 pub(crate) fn answer_sites<'a, R: Files + Input + Eprint + AllocGlobal>(
     rt: &R,
     sites: &'a Sites<'a>,

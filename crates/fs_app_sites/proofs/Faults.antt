@@ -27,7 +27,7 @@ module _ (files : List File) (prices : List ℕ) where
       elim (is_memory f) [
         | inl e ↦ first-memory f e
         | inr n ↦ let are : third ≡ names_of contents = three ∙ (named ∙ ap names_of one) in
-          of_search table contents priced read
-          (subst (λ cs. IsSolveFault (question_of table (names_of contents) cs).parts f) two
-          (subst (λ ns. IsSolveFault (question_of table ns second).parts f) are (h n)))
+            of_search table contents priced read
+            (subst (λ cs. IsSolveFault (question_of table (names_of contents) cs).parts f) two
+            (subst (λ ns. IsSolveFault (question_of table ns second).parts f) are (h n)))
       ]

@@ -25,14 +25,14 @@ pub struct Solved {
     pub sites: usize,
 }
 
-/// What `solve --sites` answers for files of tests, in this order, and a file of prices: the first of the cheapest fences
-/// of sites that rule out the outcome of each test, with their cost, and status 0; or `none`, the first file whose
+/// What `solve --sites` answers for files of tests, in this order, and a file of prices: the first of the cheapest
+/// fences of sites that rule out the outcome of each test, with their cost, and status 0; or `none`, the first file whose
 /// outcome they don't rule out, with an execution that shows it with `rw,rw` at every site, and status 1. It is in
-/// lines, or as a JSON object. The files are bytes as they were read. Contracts say nothing of how long the search takes.
+/// lines, or as a JSON object. The files are bytes as they were read. No contract says how long the search takes.
 ///
-/// The first fault in this order: `BadPrices`, also of prices that give weights, and `NoTop`; of each file in turn those
-/// of a test by number and then line, and `BadLabel` of a second site label at a place; `NodeLimit` where there are more
-/// than 65,536 sites; `TooManyTraces`, `Astray` and `TooManyCandidates` of some test, or `NodeLimit` where the search
+/// The first fault in this order: `BadPrices`, also of prices that give weights, and `NoTop`; of each file in turn
+/// those of a test by number and then line, and `BadLabel` of a second site label at a place; `NodeLimit` where there
+/// are more than 65,536 sites; `TooManyTraces`, `Astray` and `TooManyCandidates` of some test, or `NodeLimit` where the search
 /// takes more rounds or steps than so many. `Memory` may come in place of any answer.
 pub fn run_sites(
     alloc: Global,
