@@ -32,8 +32,8 @@ pub struct Solved {
 ///
 /// The first fault in this order: `BadPrices`, also of prices that give weights, and `NoTop`; of each file in turn
 /// those of a test by number and then line, and `BadLabel` of a second site label at a place; `NodeLimit` where there
-/// are more than 65,536 sites; `TooManyTraces`, `Astray` and `TooManyCandidates` of some test, or `NodeLimit` where the search
-/// takes more rounds or steps than so many. `Memory` may come in place of any answer.
+/// are more than 65,536 sites; `TooManyTraces`, `Astray` and `TooManyCandidates` of some test, or `NodeLimit` where the
+/// search takes more rounds or steps than so many. `Memory` may come in place of any answer.
 pub fn run_sites(
     alloc: Global,
     files: &[File],
