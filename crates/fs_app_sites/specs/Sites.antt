@@ -1,5 +1,5 @@
 -- Which question files ask whose labels name sites.
-use Rattle.std.specs.Prelude.{◌≡◌, ◌⊎◌, ℕ, ◌/◌, ◌%◌, true, false, Option, None, Some, IsSome, unwrap_or, List, [], ◌∷◌, ◌++◌, map, fold, length, string_bytes}
+use Rattle.std.specs.Prelude.{◌≡◌, ◌⊎◌, ℕ, ◌/◌, ◌%◌, true, Option, None, Some, IsSome, unwrap_or, List, [], ◌∷◌, ◌++◌, map, fold, length, string_bytes}
 use Rattle.std.specs.List.{position_from, range_with_len}
 use Rattle.std.specs.Str.{bytes_eq}
 use Rattle.serde_json.specs.Find.{get_member}
