@@ -1,6 +1,6 @@
 //! Tests of what no command shows by itself, on litmus tests as text, up to the verdict on a placement: the reader's
-//! layers, slots, runs and laws; the checker of executions, hunts, and judges. They stand apart, so that no crate is
-//! proved twice for their sake.
+//! layers, slots, site labels, runs and laws; the checker of executions, hunts, and judges. They stand apart, so that
+//! no crate is proved twice for their sake.
 #![tactic(auto)]
 
 #[cfg(test)]
@@ -19,6 +19,8 @@ mod kept;
 mod laws;
 #[cfg(test)]
 mod runs;
+#[cfg(test)]
+mod site_labels;
 #[cfg(test)]
 mod slots;
 #[cfg(test)]

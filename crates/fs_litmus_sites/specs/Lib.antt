@@ -1,0 +1,5 @@
+pub mod SiteName
+pub mod SiteLabels
+pub mod Sited
+pub mod Standing
+pub mod inner
