@@ -1,1 +1,3 @@
 pub mod Plans
+pub mod Sinking
+pub mod Walks

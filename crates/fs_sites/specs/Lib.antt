@@ -1,0 +1,4 @@
+pub mod Questions
+pub mod Alone
+pub mod Answers
+pub mod inner

@@ -1,0 +1,3 @@
+-- What only inner functions and proofs need.
+pub mod Bars
+pub mod Fills
