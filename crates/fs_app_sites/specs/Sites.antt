@@ -84,6 +84,10 @@ places_of names = map (place_of names)
 abbrev pub part_of : List (List ℕ) → Content → Part
 part_of names c = record { test = c.test; places = places_of names c.copies }
 
+-- those of files that hold this
+abbrev pub parts_of : List (List ℕ) → List Content → List Part
+parts_of names = map (part_of names)
+
 -- the slot that stands for the site of this number: a name only
 abbrev pub key : ℕ → Slot
 key number = record { hart = number / 256; at = number % 256 }
@@ -99,7 +103,7 @@ offer_of prices number = record { slot = key number; costs = map (price_of price
 -- the question of files that hold this, with sites of these names
 abbrev pub question_of : PriceTable → List (List ℕ) → List Content → Question
 question_of prices names contents = record {
-  parts = map (part_of names) contents;
+  parts = parts_of names contents;
   offers = map (offer_of prices) (range_with_len 0 (length names));
 }
 

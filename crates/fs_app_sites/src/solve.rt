@@ -5,7 +5,7 @@ ghost use Rattle.fs_kinds.specs.declared.fault.Fault.TheVariants.{Memory, NodeLi
 ghost use Rattle.fs_kinds.specs.PriceTable.{IsPriceTable};
 ghost use Rattle.fs_sites.specs.Answers.{IsAnswer, IsSolveFault};
 ghost use Rattle.fs_app_sites.specs.Printed.{answer_text, status_of};
-ghost use Rattle.fs_app_sites.specs.Sites.{AreContents, AreSitePrices, IsFilesFault, IsSound, names_of, question_of};
+ghost use Rattle.fs_app_sites.specs.Sites.{AreContents, AreSitePrices, IsFilesFault, IsSound, names_of, parts_of, question_of};
 ghost use Rattle.fs_app_sites.specs.Solved.{IsFirstSitesFault, IsSolved};
 
 use crate::content::{Content, File, read_content};
@@ -82,7 +82,7 @@ fn answer_of(
     requires { All IsSound contents.now }
     ensures ok { IfOk result (IsAnswer (question_of prices.now (map string_bytes names.now) contents.now)) }
     ensures err { IfErr result (λ f. f ≢ Memory
-        → IsSolveFault (question_of prices.now (map string_bytes names.now) contents.now) f) }
+        → IsSolveFault (parts_of (map string_bytes names.now) contents.now) f) }
 {
     if names.len() > MOST_SITES {
         return Err(Fault::NodeLimit);
