@@ -1,22 +1,29 @@
 """Prints the C tests of examples/c as RISC-V by scripts/from-c, with each lock, with labels and without, and compares
-what `test` says with the result in their comment, that of the kernel's documentation, or behind `RISC-V:`. Then come
-tests that scripts/from-c refuses, and bytes changed by chance: it ends with status 0 or 2 and says at most a line."""
+what `test` says with the result in their comment, that of the kernel's documentation, or behind `RISC-V:`. The cheapest
+fences of all primitives, which `solve --sites` finds, must rule out what is forbidden, too. Then come tests that
+scripts/from-c refuses, and bytes changed by chance: it ends with status 0 or 2 and says at most a line."""
+import json
 import os
 import random
 import re
 
 from running import EXAMPLES, TOP, expanded, ran, read, rows, rvfence, side_by_side, text_of, written
 
-FOLDER = f"{EXAMPLES}/c"
+FOLDER, LINUX = f"{EXAMPLES}/c", f"{EXAMPLES}/prices-linux.json"
 WORDS = {"Never": "forbidden", "Sometimes": "allowed"}
 CHANGED = 100
 HEAD = "C T\n{}\nP0(int *x, atomic_t *a, spinlock_t *s) {"
 
 
+def wanted_of(text):
+    """What `test` is to say of an example as RISC-V."""
+    result, here = re.search(r"Result: (\w+)", text), re.search(r"RISC-V: (\w+)", text)
+    return here[1] if here else WORDS[result[1]]
+
+
 def check_verdict(run, name):
     """One of the examples."""
     text = text_of(f"{FOLDER}/{name}")
-    result, here = re.search(r"Result: (\w+)", text), re.search(r"RISC-V: (\w+)", text)
     for lock in ["swap", "lrsc", "ticket"] if "spin_lock" in text else ["swap"]:
         for sites in ([], ["--sites"]):
             made = ran([f"{TOP}/scripts/from-c", f"{FOLDER}/{name}", "--lock", lock, *sites])
@@ -25,7 +32,30 @@ def check_verdict(run, name):
             run.expect(f"labels of {name}", len(re.findall("fence ", made.out)) if sites else 0, len(labels))
             run.check(f"{name} is named", made.out.startswith(f"RISCV {name.removesuffix('.litmus')}\n"))
             verdict = rvfence("test", written(run.path(f"{lock}{len(sites)}-{name}"), made.out), "-q").out.split()[1]
-            run.expect(f"{name} with {lock} {sites}", here[1] if here else WORDS[result[1]], verdict)
+            run.expect(f"{name} with {lock} {sites}", wanted_of(text), verdict)
+
+
+def made_of(name, *words):
+    return ran([f"{TOP}/scripts/from-c", f"{FOLDER}/{name}", *words]).out
+
+
+def check_sites(run, names, lock):
+    """The cheapest fences of all primitives, by the examples whose outcome is forbidden: with these FENCEs each is."""
+    files = [written(run.path(f"bare-{lock}-{name}"), made_of(name, "--lock", lock, "--bare")) for name in names]
+    found = rvfence("solve", *files, LINUX, "--sites")
+    run.expect(f"the status with {lock}", ("", 0), found[1:])
+    first, *sites = [line.split() for line in found.out.splitlines()]
+    kinds, prices = {site: kind for _, site, kind in sites}, json.loads(read(LINUX))
+    run.expect(f"the cost with {lock}", ["fenced", str(sum(prices[kind] for kind in kinds.values()))], first)
+
+    def placed(label):
+        kind = kinds.get(label[1])
+        return f"fence {kind}".replace(" tso", ".tso") if kind else "nop"
+
+    for name in names:
+        text = re.sub(r"\b(\w+)_\d+: fence(?:\.tso| [riow]+,[riow]+)", placed, made_of(name, "--lock", lock, "--sites"))
+        verdict = rvfence("test", written(run.path("placed"), text), "-q").out.split()[1]
+        run.expect(f"{name} with the fences found and {lock}", "forbidden", verdict)
 
 
 def pairs(group):
@@ -59,7 +89,10 @@ def check_changed(run, number):
 
 
 def check(run):
-    side_by_side(lambda name: check_verdict(run, name), sorted(os.listdir(FOLDER)))
+    names = sorted(os.listdir(FOLDER))
+    side_by_side(lambda name: check_verdict(run, name), names)
+    forbidden = [name for name in names if wanted_of(text_of(f"{FOLDER}/{name}")) == "forbidden"]
+    side_by_side(lambda lock: check_sites(run, forbidden, lock), ["swap", "lrsc", "ticket"])
     check_printed(run)
     files = [(f"{HEAD}{code}}}\nexists (true)", wanted) for code, wanted in pairs("refused")]
     for data, wanted in [*files, *pairs("refused files"), (b"\xff", "'utf-8'")]:

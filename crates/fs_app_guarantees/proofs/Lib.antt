@@ -37,3 +37,4 @@ mod WitnessTexts
 mod Witnesses
 mod Yeses
 pub mod FencesTold
+mod SitesMeaning

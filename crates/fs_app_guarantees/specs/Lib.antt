@@ -7,4 +7,5 @@ pub mod Headline
 pub mod Lines
 pub mod Meanings
 pub mod Print
+pub mod Sites
 pub mod States

@@ -3,8 +3,8 @@
 //! `order` have one answer, that printed lines say one answer, what a yes of `check` means, and that the certificate of
 //! `solve --cert` gets one; that a certificate has one verdict; that `--why` leaves out no fence of an answer; that the
 //! fences which `audit` advises rule the outcome out, and what it writes keeps FENCEs that name devices; what final
-//! states tell of the outcome; and that two tests that are the same wherever the parts of their conditions lie in memory
-//! have all else alike. No other crate stands on this one, and nothing in it runs.
+//! states tell of the outcome; what an answer over sites means; and that two tests that are the same wherever the parts
+//! of their conditions lie in memory have all else alike. No other crate stands on this one, and nothing in it runs.
 #![tactic(auto)]
 
 mod agreement;
@@ -16,6 +16,7 @@ mod lines;
 mod meanings;
 mod one_certificate_verdict;
 mod promise;
+mod sites;
 mod states;
 
 pub use agreement::{order_agrees, order_answers_once, words_place_fences};
@@ -33,4 +34,5 @@ pub use meanings::{
 };
 pub use one_certificate_verdict::one_verdict;
 pub use promise::headline;
+pub use sites::sites_are_true;
 pub use states::states_tell_the_outcome;

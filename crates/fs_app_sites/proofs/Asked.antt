@@ -7,7 +7,7 @@ use Rattle.fs_kinds.specs.PriceTable.{PriceTable, IsPriceTable}
 use Rattle.fs_kinds.specs.Slot.{is_rising}
 use Rattle.fs_sites.specs.Questions.{IsPart, IsQuestion, slots_at}
 use Rattle.fs_app_sites.specs.Sites.{Content, Copy, IsSound, part_of, places_of, question_of, slots_of}
-use Rattle.fs_app_sites.proofs.Offered.{has-top}
+use Rattle.fs_app_sites.proofs.Offered.{has-top, plain}
 
 module _ (names : List (List ℕ)) where
   same-slots : (copies : List Copy) → slots_at (places_of names copies) ≡ slots_of copies
@@ -26,4 +26,5 @@ module _ (names : List (List ℕ)) where
   is-question prices contents table sound = record {
     parts = All-map IsPart (part_of names) contents (All-weaker IsSound (λ c. IsPart (part_of names c)) is-part contents sound);
     top = has-top prices table (length names);
+    plain = plain prices (length names);
   }

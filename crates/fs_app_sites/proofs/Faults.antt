@@ -22,12 +22,12 @@ module _ (files : List File) (prices : List ℕ) where
 
   pub first-search : (f : Fault) (table : PriceTable) (contents first second : List Content) (names third : List (List ℕ))
       → AreSitePrices prices table → AreContents files contents → first ≡ contents → names ≡ names_of first → second ≡ contents
-      → third ≡ names → (f ≢ Memory → IsSolveFault (parts_of third second) f) → IsFirstSitesFault files prices f
+      → third ≡ names → (f ≢ Memory → IsSolveFault (question_of table third second).parts f) → IsFirstSitesFault files prices f
   first-search f table contents first second names third priced read one named two three h =
       elim (is_memory f) [
         | inl e ↦ first-memory f e
         | inr n ↦ let are : third ≡ names_of contents = three ∙ (named ∙ ap names_of one) in
-            of_search table contents priced read
-            (subst (λ cs. IsSolveFault (parts_of (names_of contents) cs) f) two
-            (subst (λ ns. IsSolveFault (parts_of ns second) f) are (h n)))
+          of_search table contents priced read
+          (subst (λ cs. IsSolveFault (question_of table (names_of contents) cs).parts f) two
+          (subst (λ ns. IsSolveFault (question_of table ns second).parts f) are (h n)))
       ]

@@ -36,6 +36,18 @@ module _ (prices : PriceTable) where
   slots-at [] = refl
   slots-at (n ∷ ns) = ap (λ ss. key n ∷ ss) (slots-at ns)
 
+  -- ---- no kind is written there
+
+  each-plain : (ns : List ℕ) (k : ℕ) (o : Offer) → slice_get (map (offer_of prices) ns) k ≡ Some o → o.written ≡ None
+  each-plain [] k o at = absurd (cc)
+  each-plain (n ∷ ns) zero o at =
+      let same : offer_of prices n ≡ o = cc in
+      subst (λ (x : Offer). x.written ≡ None) same refl
+  each-plain (n ∷ ns) (suc k) o at = each-plain ns k o at
+
+  pub plain : (n k : ℕ) (o : Offer) → slice_get (map (offer_of prices) (range_with_len 0 n)) k ≡ Some o → o.written ≡ None
+  plain n = each-plain (range_with_len 0 n)
+
   -- ---- costs
 
   price-there : (n : ℕ) (kind : Kind) → price_of (offer_of prices n) kind ≡ priced.price_of prices kind

@@ -27,6 +27,6 @@ pub data IsFirstSitesFault (files : List File) (prices : List ℕ) : Fault → T
   of_files : {fault : Fault} (table : PriceTable) → AreSitePrices prices table → IsFilesFault files fault
       → IsFirstSitesFault files prices fault
   of_search : {fault : Fault} (table : PriceTable) (contents : List Content) → AreSitePrices prices table
-      → AreContents files contents → IsSolveFault (parts_of (names_of contents) contents) fault
+      → AreContents files contents → IsSolveFault (question_of table (names_of contents) contents).parts fault
       → IsFirstSitesFault files prices fault
   of_memory : IsFirstSitesFault files prices Memory

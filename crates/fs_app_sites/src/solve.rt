@@ -82,7 +82,7 @@ fn answer_of(
     requires { All IsSound contents.now }
     ensures ok { IfOk result (IsAnswer (question_of prices.now (map string_bytes names.now) contents.now)) }
     ensures err { IfErr result (λ f. f ≢ Memory
-        → IsSolveFault (parts_of (map string_bytes names.now) contents.now) f) }
+        → IsSolveFault (question_of prices.now (map string_bytes names.now) contents.now).parts f) }
 {
     if names.len() > MOST_SITES {
         return Err(Fault::NodeLimit);

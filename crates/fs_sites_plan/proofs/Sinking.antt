@@ -1,7 +1,7 @@
 -- A bar that is broken is paid for: what is left to pay sinks by as much.
 use Rattle.std.proofs.Common.{◌≡◌, ℕ, zero, suc, ◌+◌, ◌-◌, ◌≤◌, Bool, true, false, ◌&&◌, not, Option, None, Some, is_some, unwrap_or, option_map, List, [], ◌∷◌, ◌++◌, length, take, set, get_or, ◌<◌, refl, sym, ap, ap₂, subst, ◌∙◌, arith}
 use Rattle.std.specs.Prelude.{if◌then◌else◌, slice_get, min}
-use Rattle.std.proofs.lemmas.Bool.{and_parts, false≢true, true≢false}
+use Rattle.std.proofs.lemmas.Bool.{and_parts, false≢true, true≢false, false_from_ne_true}
 use Rattle.std.proofs.lemmas.List.{take_all}
 use Rattle.fs_kinds.specs.declared.kind.Kind.{Kind}
 use Rattle.fs_kinds.specs.declared.kind.Kind.TheVariants.{RR, RW, RRw, WR, WW, WRw, RwR, RwW, RwRw, Tso}
@@ -12,31 +12,52 @@ use Rattle.fs_board_offers.specs.Offers.{Offer, price_of, is_offered, kind_cost}
 use Rattle.fs_board_offers.specs.Breaks.{fits, break_cost, lesser_of, least_of, all_options}
 use Rattle.fs_board_offers.specs.Pruning.{lesser}
 use Rattle.fs_sites_plan.specs.Plans.{is_within, breaks_all}
-use Rattle.fs_sites_plan.specs.Sinking.{Fills, paid, unbroken_rest, least_in, sunk_price, sunk_offer, sunk, IsAtMost}
+use Rattle.fs_sites_plan.specs.Sinking.{Fills, paid, unbroken_rest, keeps_all, least_at, least_in, sunk_price, cheaper_offer, sunk_offer, sunk, IsAtMost}
 
 -- ---- one site
 
+itself : (n : ℕ) → n ≤ n
+itself n = omega arith
+
+-- where all pairs are kept each kind fits
+fits-all : (pairs : Pairs) (kind : Option Kind) → keeps_all pairs ≡ true → fits pairs kind ≡ true
+fits-all pairs None all = refl
+fits-all pairs (Some RR) all = grind (arith, all)
+fits-all pairs (Some RW) all = grind (arith, all)
+fits-all pairs (Some RRw) all = grind (arith, all)
+fits-all pairs (Some WR) all = grind (arith, all)
+fits-all pairs (Some WW) all = grind (arith, all)
+fits-all pairs (Some WRw) all = grind (arith, all)
+fits-all pairs (Some RwR) all = grind (arith, all)
+fits-all pairs (Some RwW) all = grind (arith, all)
+fits-all pairs (Some RwRw) all = all
+fits-all pairs (Some Tso) all = grind (arith, all)
+
+not-all : (pairs : Pairs) (kind : Option Kind) → fits pairs kind ≡ false → keeps_all pairs ≡ false
+not-all pairs kind broken =
+    false_from_ne_true (keeps_all pairs) (λ all. true≢false (sym (fits-all pairs kind all) ∙ broken))
+
 module _ (d : ℕ) (pairs : Pairs) (o : Offer) where
-  price-sunk : (kind : Kind) → price_of (sunk_offer d pairs o) kind ≡ sunk_price d pairs o kind
-  price-sunk RR = refl
-  price-sunk RW = refl
-  price-sunk RRw = refl
-  price-sunk WR = refl
-  price-sunk WW = refl
-  price-sunk WRw = refl
-  price-sunk RwR = refl
-  price-sunk RwW = refl
-  price-sunk RwRw = refl
-  price-sunk Tso = refl
+  price-cheaper : (kind : Kind) → price_of (cheaper_offer d pairs o) kind ≡ sunk_price d pairs o kind
+  price-cheaper RR = refl
+  price-cheaper RW = refl
+  price-cheaper RRw = refl
+  price-cheaper WR = refl
+  price-cheaper WW = refl
+  price-cheaper WRw = refl
+  price-cheaper RwR = refl
+  price-cheaper RwW = refl
+  price-cheaper RwRw = refl
+  price-cheaper Tso = refl
 
   there-or-not : (f : ℕ → ℕ) (price : Option ℕ) → is_some (option_map f price) ≡ is_some price
   there-or-not f None = refl
   there-or-not f (Some n) = refl
 
-  pub offered-sunk : (kind : Option Kind) → is_offered (sunk_offer d pairs o) kind ≡ is_offered o kind
-  offered-sunk None = refl
-  offered-sunk (Some kind) =
-      ap is_some (price-sunk kind) ∙ there-or-not (λ n. if fits pairs (Some kind) then n else n - d) (price_of o kind)
+  offered-cheaper : (kind : Option Kind) → is_offered (cheaper_offer d pairs o) kind ≡ is_offered o kind
+  offered-cheaper None = refl
+  offered-cheaper (Some kind) =
+      ap is_some (price-cheaper kind) ∙ there-or-not (λ n. if fits pairs (Some kind) then n else n - d) (price_of o kind)
 
   less-or-same : (b : Bool) (n : ℕ) → (if b then n else n - d) ≤ n
   less-or-same true n = omega arith
@@ -46,10 +67,10 @@ module _ (d : ℕ) (pairs : Pairs) (o : Offer) where
   price-below b None = omega arith
   price-below b (Some n) = less-or-same b n
 
-  pub cost-below : (kind : Option Kind) → kind_cost (sunk_offer d pairs o) kind ≤ kind_cost o kind
-  cost-below None = omega arith
-  cost-below (Some kind) =
-      let same = ap (λ n. unwrap_or n 0) (price-sunk kind) in
+  cheaper-below : (kind : Option Kind) → kind_cost (cheaper_offer d pairs o) kind ≤ kind_cost o kind
+  cheaper-below None = omega arith
+  cheaper-below (Some kind) =
+      let same = ap (λ n. unwrap_or n 0) (price-cheaper kind) in
       let low = price-below (fits pairs (Some kind)) (price_of o kind) in
       omega (arith, same, low)
 
@@ -59,13 +80,43 @@ module _ (d : ℕ) (pairs : Pairs) (o : Offer) where
   price-sinks false None broken low = omega (arith, low)
   price-sinks false (Some n) broken low = omega (arith, low)
 
-  pub cost-sinks : (kind : Option Kind) → fits pairs kind ≡ false → d ≤ kind_cost o kind
-      → d + kind_cost (sunk_offer d pairs o) kind ≤ kind_cost o kind
-  cost-sinks None broken low = absurd (true≢false broken)
-  cost-sinks (Some kind) broken low =
-      let same = ap (λ n. unwrap_or n 0) (price-sunk kind) in
+  cheaper-sinks : (kind : Option Kind) → fits pairs kind ≡ false → d ≤ kind_cost o kind
+      → d + kind_cost (cheaper_offer d pairs o) kind ≤ kind_cost o kind
+  cheaper-sinks None broken low = absurd (true≢false broken)
+  cheaper-sinks (Some kind) broken low =
+      let same = ap (λ n. unwrap_or n 0) (price-cheaper kind) in
       let sinks = price-sinks (fits pairs (Some kind)) (price_of o kind) broken low in
       omega (arith, same, sinks)
+
+  -- where all pairs are kept the offer stays as it is
+  pub slot-sunk : (sunk_offer d pairs o).slot ≡ o.slot
+  slot-sunk = slot-by (keeps_all pairs)
+    where
+      slot-by : (b : Bool) → (if b then o else cheaper_offer d pairs o).slot ≡ o.slot
+      slot-by true = refl
+      slot-by false = refl
+
+  pub offered-sunk : (kind : Option Kind) → is_offered (sunk_offer d pairs o) kind ≡ is_offered o kind
+  offered-sunk kind = offered-by (keeps_all pairs)
+    where
+      offered-by : (b : Bool) → is_offered (if b then o else cheaper_offer d pairs o) kind ≡ is_offered o kind
+      offered-by true = refl
+      offered-by false = offered-cheaper kind
+
+  pub cost-below : (kind : Option Kind) → kind_cost (sunk_offer d pairs o) kind ≤ kind_cost o kind
+  cost-below kind = below-by (keeps_all pairs)
+    where
+      below-by : (b : Bool) → kind_cost (if b then o else cheaper_offer d pairs o) kind ≤ kind_cost o kind
+      below-by true = itself (kind_cost o kind)
+      below-by false = cheaper-below kind
+
+  pub cost-sinks : (kind : Option Kind) → fits pairs kind ≡ false → d ≤ kind_cost o kind
+      → d + kind_cost (sunk_offer d pairs o) kind ≤ kind_cost o kind
+  cost-sinks kind broken low = sinks-by (keeps_all pairs) (not-all pairs kind broken)
+    where
+      sinks-by : (b : Bool) → b ≡ false → d + kind_cost (if b then o else cheaper_offer d pairs o) kind ≤ kind_cost o kind
+      sinks-by true is = absurd (true≢false is)
+      sinks-by false is = cheaper-sinks kind broken low
 
 -- ---- the least of costs
 
@@ -85,13 +136,13 @@ at-most-right first None k low = absurd low
 at-most-right None (Some n) k low = low
 at-most-right (Some m) (Some n) k low = lesser-right m n k low
 
-least-at : {A : Type 0} (f : A → Option ℕ) (xs : List A) (i : ℕ) (x : A) (k : ℕ) → slice_get xs i ≡ Some x → IsAtMost (f x) k
+least-found : {A : Type 0} (f : A → Option ℕ) (xs : List A) (i : ℕ) (x : A) (k : ℕ) → slice_get xs i ≡ Some x → IsAtMost (f x) k
     → IsAtMost (least_of f xs) k
-least-at f [] i x k at low = absurd (cc)
-least-at {A} f (y ∷ xs) zero x k at low =
+least-found f [] i x k at low = absurd (cc)
+least-found {A} f (y ∷ xs) zero x k at low =
     let same : x ≡ y = cc in
     at-most-left (f y) (least_of f xs) k (subst (λ (z : A). IsAtMost (f z) k) same low)
-least-at f (y ∷ xs) (suc i) x k at low = at-most-right (f y) (least_of f xs) k (least-at f xs i x k at low)
+least-found f (y ∷ xs) (suc i) x k at low = at-most-right (f y) (least_of f xs) k (least-found f xs i x k at low)
 
 option-at : (kind : Option Kind) → slice_get all_options (rank kind) ≡ Some kind
 option-at None = refl
@@ -112,10 +163,14 @@ break-by true true n is broken = absurd (true≢false broken)
 break-by true false n is broken = omega arith
 
 break-most : (o : Offer) (pairs : Pairs) (kind : Option Kind) → is_offered o kind ≡ true → fits pairs kind ≡ false
-    → IsAtMost (least_of (break_cost o pairs) all_options) (kind_cost o kind)
-break-most o pairs kind offered broken =
-    least-at (break_cost o pairs) all_options (rank kind) kind (kind_cost o kind) (option-at kind)
-    (break-by (is_offered o kind) (fits pairs kind) (kind_cost o kind) offered broken)
+    → IsAtMost (least_at pairs o) (kind_cost o kind)
+break-most o pairs kind offered broken = most-by (keeps_all pairs) (not-all pairs kind broken)
+  where
+    most-by : (b : Bool) → b ≡ false → IsAtMost (if b then None else least_of (break_cost o pairs) all_options) (kind_cost o kind)
+    most-by true is = absurd (true≢false is)
+    most-by false is =
+        least-found (break_cost o pairs) all_options (rank kind) kind (kind_cost o kind) (option-at kind)
+        (break-by (is_offered o kind) (fits pairs kind) (kind_cost o kind) offered broken)
 
 -- ---- all sites
 
@@ -124,13 +179,10 @@ fills-sunk d [] offers p fills = fills
 fills-sunk d (pairs ∷ bar) [] p fills = fills
 fills-sunk d (pairs ∷ bar) (o ∷ offers) [] fills = fills
 fills-sunk d (pairs ∷ bar) (o ∷ offers) (e ∷ p) fills =
-    (fills.0, offered-sunk d pairs o e.kind ∙ fills.1, fills-sunk d bar offers p fills.2)
+    (fills.0 ∙ sym (slot-sunk d pairs o), offered-sunk d pairs o e.kind ∙ fills.1, fills-sunk d bar offers p fills.2)
 
 add-below : (a b c d : ℕ) → a ≤ b → c ≤ d → a + c ≤ b + d
 add-below a b c d first second = omega (arith, first, second)
-
-itself : (n : ℕ) → n ≤ n
-itself n = omega arith
 
 pub paid-below : (d : ℕ) (bar : List Pairs) (offers : List Offer) (p : List Entry) → paid (sunk d bar offers) p ≤ paid offers p
 paid-below d [] offers p = itself (paid offers p)
@@ -163,7 +215,7 @@ module _ (pairs : Pairs) (bar : List Pairs) (o : Offer) (offers : List Offer) (e
   here-sinks : is_offered o e.kind ≡ true → fits pairs e.kind ≡ false → Sinks (pairs ∷ bar) (o ∷ offers) (e ∷ p)
   here-sinks offered broken =
       let found = there (least_in (pairs ∷ bar) (o ∷ offers)) (kind_cost o e.kind)
-      (at-most-left (least_of (break_cost o pairs) all_options) (least_in bar offers) (kind_cost o e.kind) (break-most o pairs e.kind offered broken)) in
+      (at-most-left (least_at pairs o) (least_in bar offers) (kind_cost o e.kind) (break-most o pairs e.kind offered broken)) in
       record {
         least = found.0;
         is = found.1;
@@ -175,7 +227,7 @@ module _ (pairs : Pairs) (bar : List Pairs) (o : Offer) (offers : List Offer) (e
   later-sinks : Sinks bar offers p → Sinks (pairs ∷ bar) (o ∷ offers) (e ∷ p)
   later-sinks later =
       let found = there (least_in (pairs ∷ bar) (o ∷ offers)) later.least
-      (at-most-right (least_of (break_cost o pairs) all_options) (least_in bar offers) later.least
+      (at-most-right (least_at pairs o) (least_in bar offers) later.least
       (subst (λ (m : Option ℕ). IsAtMost m later.least) (sym later.is) (itself later.least))) in
       record {
         least = found.0;

@@ -1,7 +1,8 @@
 -- What placements that break bars cost at least: each bar in turn takes what the cheapest of its ways costs, and each of
 -- these ways is so much cheaper for the later ones.
-use Rattle.std.specs.Prelude.{◌≡◌, ℕ, ◌+◌, ◌-◌, ◌≤◌, true, if◌then◌else◌, Option, None, Some, option_map, List, [], ◌∷◌, map}
+use Rattle.std.specs.Prelude.{◌≡◌, ℕ, ◌+◌, ◌-◌, ◌≤◌, Bool, true, if◌then◌else◌, Option, None, Some, option_map, List, [], ◌∷◌, map}
 use Rattle.fs_kinds.specs.declared.kind.Kind.{Kind}
+use Rattle.fs_kinds.specs.declared.kind.Kind.TheVariants.{RwRw}
 use Rattle.fs_kinds.specs.declared.placement.Entry.{Entry}
 use Rattle.fs_kinds.specs.Kind.{all_kinds}
 use Rattle.fs_cert_evidence.specs.declared.evidence.Pairs.{Pairs}
@@ -32,17 +33,27 @@ unbroken_rest bar [] = Some bar
 unbroken_rest [] (e ∷ p) = Some []
 unbroken_rest (pairs ∷ bar) (e ∷ p) = if fits pairs e.kind then unbroken_rest bar p else None
 
--- what the cheapest way costs to break a bar at one of these offers
+-- all pairs are kept, so that nothing breaks the bar there
+abbrev pub keeps_all : Pairs → Bool
+keeps_all pairs = fits pairs (Some RwRw)
+
+-- what the cheapest way costs to break a bar at an offer, and at one of these
+abbrev pub least_at : Pairs → Offer → Option ℕ
+least_at pairs o = if keeps_all pairs then None else least_of (break_cost o pairs) all_options
+
 abbrev pub least_in : List Pairs → List Offer → Option ℕ
-least_in (pairs ∷ bar) (o ∷ offers) = lesser_of (least_of (break_cost o pairs) all_options) (least_in bar offers)
+least_in (pairs ∷ bar) (o ∷ offers) = lesser_of (least_at pairs o) (least_in bar offers)
 least_in _ _ = None
 
 -- each way to break the bar so much cheaper
 abbrev pub sunk_price : ℕ → Pairs → Offer → Kind → Option ℕ
 sunk_price d pairs o kind = option_map (λ n. if fits pairs (Some kind) then n else n - d) (price_of o kind)
 
+abbrev pub cheaper_offer : ℕ → Pairs → Offer → Offer
+cheaper_offer d pairs o = record { slot = o.slot; costs = map (sunk_price d pairs o) all_kinds; written = o.written }
+
 abbrev pub sunk_offer : ℕ → Pairs → Offer → Offer
-sunk_offer d pairs o = record { slot = o.slot; costs = map (sunk_price d pairs o) all_kinds; written = o.written }
+sunk_offer d pairs o = if keeps_all pairs then o else cheaper_offer d pairs o
 
 abbrev pub sunk : ℕ → List Pairs → List Offer → List Offer
 sunk d (pairs ∷ bar) (o ∷ offers) = sunk_offer d pairs o ∷ sunk d bar offers

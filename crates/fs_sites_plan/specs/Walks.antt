@@ -21,7 +21,8 @@ is_reached (e ∷ q) (f ∷ p) = nat_lt (rank e.kind) (rank f.kind) || (rank e.k
 pub record IsNext (o : Offer) (kind : Option Kind) (next : Kind) : Type 0 where
   pub offered : is_offered o (Some next) ≡ true
   pub later : rank kind < rank (Some next)
-  pub none_between : (other : Option Kind) → is_offered o other ≡ true → rank other < rank (Some next) → rank other ≤ rank kind
+  pub none_between : (other : Option Kind) → is_offered o other ≡ true → rank other < rank (Some next)
+      → rank other ≤ rank kind
 
 -- behind this kind none is offered
 abbrev pub IsLast : Offer → Option Kind → Type 0
@@ -54,15 +55,18 @@ Closes offers bars best cursor =
     → CostsNoLess offers best q
 
 -- a placement that breaks all bars, among those that were seen
-pub record IsFound (offers : Offers) (bars : List (List Pairs)) (was_seen : List Entry → Bool) (p : List Entry) : Type 0 where
+pub record IsFound (offers : Offers) (bars : List (List Pairs)) (was_seen : List Entry → Bool) (p : List Entry)
+    : Type 0 where
   pub placement : IsPlacement offers p
   pub breaks : breaks_all bars p ≡ true
   pub seen : was_seen p ≡ true
 
 -- Of the placements that were seen the best one that breaks all bars.
-pub record IsBestOf (offers : Offers) (bars : List (List Pairs)) (was_seen : List Entry → Bool) (best : Option (List Entry)) : Type 0 where
+pub record IsBestOf (offers : Offers) (bars : List (List Pairs)) (was_seen : List Entry → Bool)
+    (best : Option (List Entry)) : Type 0 where
   pub found : IfSome best (IsFound offers bars was_seen)
-  pub none_better : (q : List Entry) → IsPlacement offers q → breaks_all bars q ≡ true → was_seen q ≡ true → IsNoBetter offers best q
+  pub none_better : (q : List Entry) → IsPlacement offers q → breaks_all bars q ≡ true → was_seen q ≡ true
+      → IsNoBetter offers best q
 
 -- all before the cursor was seen
 abbrev pub IsBestBefore : Offers → List (List Pairs) → List Entry → Option (List Entry) → Type 0

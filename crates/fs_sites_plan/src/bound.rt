@@ -1,10 +1,11 @@
 //! What placements that begin with what is decided and break all bars cost at least.
 
-ghost use Rattle.std.specs.Prelude.{◌≡◌, ◌+◌, ◌≤◌, true, false, IfOk, IfSome, IsTrue, List, ◌++◌, length, option_copied};
+ghost use Rattle.std.specs.Prelude.{◌≡◌, ◌+◌, ◌≤◌, true, false, IfOk, IsTrue, List, ◌++◌, length, option_copied};
 ghost use Rattle.fs_kinds.specs.declared.placement.Entry.{Entry as EntryValue};
 ghost use Rattle.fs_board_offers.specs.Breaks.{break_cost, least_of};
 ghost use Rattle.fs_sites_plan.specs.Plans.{is_within, breaks_all};
-ghost use Rattle.fs_sites_plan.specs.Sinking.{Fills, paid, least_in, sunk_price, sunk_offer, sunk, IsAtMost, HasPaid};
+ghost use Rattle.fs_sites_plan.specs.Sinking.{Fills, paid, least_at, least_in, sunk_price};
+ghost use Rattle.fs_sites_plan.specs.Sinking.{cheaper_offer, sunk_offer, sunk, IsAtMost, HasPaid};
 ghost use Rattle.fs_sites_plan.specs.Walks.{Closes};
 
 use crate::bars::{fits, unbroken_rest};
@@ -38,6 +39,17 @@ fn least_of(offer: &Offer, pairs: Pairs, kinds: &[Option<Kind>]) -> Option<u32>
     )
 }
 
+/// What the cheapest way costs to break the bar at this site.
+fn least_at(pairs: Pairs, offer: &Offer) -> Option<u32>
+    ensures { result ≡ least_at pairs offer.now }
+{
+    if fits(pairs, Some(Kind::RwRw)) {
+        None
+    } else {
+        least_of(offer, pairs, &OPTIONS)
+    }
+}
+
 /// What the cheapest way costs to break the bar at one of these sites. It calls itself once for each site.
 fn least_in(bar: &[Pairs], offers: &[Offer]) -> Option<u32>
     ensures { result ≡ least_in bar.now offers.now }
@@ -48,7 +60,7 @@ fn least_in(bar: &[Pairs], offers: &[Offer]) -> Option<u32>
     let [offer, offers @ ..] = offers else {
         return None;
     };
-    lesser(least_of(offer, *pairs, &OPTIONS), least_in(bar, offers))
+    lesser(least_at(*pairs, offer), least_in(bar, offers))
 }
 
 /// What the kind costs, so much less where it orders a pair that isn't kept.
@@ -64,8 +76,8 @@ fn sunk_price(offer: &Offer, pairs: Pairs, kind: Kind, less: u32) -> Option<u32>
 }
 
 /// The offer with each such kind so much cheaper.
-fn sunk_offer(offer: &Offer, pairs: Pairs, less: u32) -> Offer
-    ensures { result ≡ sunk_offer less pairs offer.now }
+fn cheaper_offer(offer: &Offer, pairs: Pairs, less: u32) -> Offer
+    ensures { result ≡ cheaper_offer less pairs offer.now }
 {
     Offer {
         slot: offer.slot,
@@ -85,12 +97,21 @@ fn sunk_offer(offer: &Offer, pairs: Pairs, less: u32) -> Offer
     }
 }
 
+/// Makes each way to break the bar at this site so much cheaper.
+fn sink_at(pairs: Pairs, offer: &mut Offer, less: u32)
+    ensures { offer.new ≡ sunk_offer less pairs offer.old }
+{
+    if !fits(pairs, Some(Kind::RwRw)) {
+        *offer = cheaper_offer(offer, pairs, less);
+    }
+}
+
 /// Makes each way to break the bar at these sites so much cheaper.
 fn sink(bar: &[Pairs], offers: &mut [Offer], less: u32)
     ensures { offers.new ≡ sunk less bar.now offers.old }
 {
     for site in 0..bar.len().min(offers.len()) {
-        offers[site] = sunk_offer(&offers[site], bar[site], less);
+        sink_at(bar[site], &mut offers[site], less);
     }
 }
 

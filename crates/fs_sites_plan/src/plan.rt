@@ -1,6 +1,7 @@
 //! Finds the first of the cheapest placements that break all bars.
 
-ghost use Rattle.std.specs.Prelude.{◌≢◌, ◌≡◌, ◌<◌, ◌≤◌, IsTrue, IfOk, IfErr, MatchOption, IsOkUnless, false, None, length, option_copied};
+ghost use Rattle.std.specs.Prelude.{◌≢◌, ◌≡◌, ◌<◌, ◌≤◌, false, None, IsTrue, IfOk, IfErr, IsOkUnless, MatchOption};
+ghost use Rattle.std.specs.Prelude.{length, option_copied};
 ghost use Rattle.fs_kinds.specs.declared.fault.Fault.TheVariants.{Memory, NodeLimit};
 ghost use Rattle.fs_kinds.specs.Placement.{has_slot, with_kind};
 ghost use Rattle.fs_board_offers.specs.Offers.{IsPlacement};
@@ -143,7 +144,9 @@ fn empty_at(offer: &Offer) -> Entry
 }
 
 /// Of the placements that the offers allow the cheapest that breaks all bars, and of these the first; none where no
-/// placement does. F16 where that isn't found out in so many steps; else the error is F19.
+/// placement does. A bar has the pairs that an execution keeps at each site, in order; no kind may be written at any
+/// site. F16 where that isn't found out in so many steps, each of which takes time of bars, sites and kinds; else the
+/// error is F19.
 pub fn first_breaking(
     alloc: Global,
     offers: &Offers,

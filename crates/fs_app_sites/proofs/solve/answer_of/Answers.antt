@@ -12,5 +12,4 @@ solve-requires c =
 pub returns-in_err-answer-clause-err : goal.returns-in_err-answer-clause-err
 returns-in_err-answer-clause-err c =
     IfErr-handed c.from_residual-in_err-answer.result _ _ c.from_residual-in_err-answer.ensures.1
-    (λ n. subst (λ (q : Question). IsSolveFault q.parts c.in_err-answer.field-0.0) c.in_ok-question.ensures.value
-    (c.in_err-answer.ensures.err n))
+    (λ n. subst (λ (q : Question). IsSolveFault q.parts c.in_err-answer.field-0.0) c.in_ok-question.ensures.value (c.in_err-answer.ensures.err n))

@@ -7,8 +7,8 @@ loop-site-preserved c =
     let test = c.loop-site-test.true in
     let end = c.min-site-end.ensures in
     let long = c.loop-site.auto.offers in
-    sunk-next c.args.less c.args.bar.now c.args.offers.now c.loop-site.offers c.loop-site.site _ c.index-offers-site.result c.sunk_offer.result
-    (omega (arith, test, end)) (omega (arith, test, end)) c.loop-site.invariant c.sunk_offer.ensures
+    sunk-next c.args.less c.args.bar.now c.args.offers.now c.loop-site.offers c.loop-site.site _ c.index-offers-site.result c.sink_at.new.offer
+    (omega (arith, test, end)) (omega (arith, test, end)) c.loop-site.invariant c.sink_at.ensures
 
 pub returns : goal.returns
 returns c =
