@@ -6,7 +6,7 @@ use Rattle.fs_kinds.specs.PriceTable.{PriceTable}
 use Rattle.fs_sites.specs.Answers.{IsSolveFault}
 use Rattle.fs_app_place_order.proofs.Faults.{is_memory}
 use Rattle.fs_app_sites.specs.declared.content.File.{File}
-use Rattle.fs_app_sites.specs.Sites.{Content, AreContents, AreSitePrices, IsFilesFault, IsSitePricesFault, names_of, parts_of}
+use Rattle.fs_app_sites.specs.Sites.{Content, AreContents, AreSitePrices, IsFilesFault, IsSitePricesFault, names_of, question_of}
 use Rattle.fs_app_sites.specs.Solved.{IsFirstSitesFault, of_prices, of_files, of_search, of_memory}
 
 module _ (files : List File) (prices : List ℕ) where

@@ -1,6 +1,6 @@
 -- What may stand at sites: their keys rise, no fence costs too much, and rw,rw is offered at each.
-use Rattle.std.proofs.Common.{◌≡◌, ◌≤◌, ◌<◌, ◌+◌, ℕ, zero, suc, Bool, true, false, Option, None, Some, unwrap_or, List, [], ◌∷◌, map, refl, ap, subst, ◌∙◌, arith, if◌then◌else◌}
-use Rattle.std.specs.Prelude.{slice_get, IfSome}
+use Rattle.std.proofs.Common.{◌≡◌, ◌≤◌, ◌<◌, ◌+◌, ◌/◌, ◌%◌, ◌==◌, ◌&&◌, ◌||◌, ℕ, zero, suc, nat_lt, Bool, true, false, Option, None, Some, unwrap_or, List, [], ◌∷◌, map, refl, ap, subst, ◌∙◌, arith, if◌then◌else◌}
+use Rattle.std.specs.Prelude.{slice_get, IfSome, IsSome}
 use Rattle.std.specs.List.{list_all, find, range_with_len}
 use Rattle.std.proofs.lemmas.Bool.{and_from, and_parts}
 use Rattle.std.proofs.lemmas.Bool.Decides.{nat_tests}
@@ -11,7 +11,7 @@ use Rattle.fs_kinds.specs.Placement.{all_with}
 use Rattle.fs_kinds.specs.PriceTable.{PriceTable, IsPriceTable, most_price}
 use Rattle.fs_kinds.specs.PriceTable as priced
 use Rattle.fs_kinds.specs.Slot.{is_before, is_rising, is_same_slot}
-use Rattle.fs_board_offers.specs.Offers.{Offer, Offers, AreOffers, price_of, is_offered, kind_cost, slots, most_cost, nothing, are_offered}
+use Rattle.fs_board_offers.specs.Offers.{Offer, Offers, AreOffers, price_of, is_offered, kind_cost, slots, most_cost, nothing, offer_at, are_offered}
 use Rattle.fs_board_offers.specs.Questions.{HasTop}
 use Rattle.fs_app_sites.specs.Sites.{key, offer_of}
 

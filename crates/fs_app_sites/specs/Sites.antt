@@ -1,5 +1,5 @@
 -- Which question files ask whose labels name sites.
-use Rattle.std.specs.Prelude.{◌≡◌, ◌⊎◌, ℕ, ◌/◌, ◌%◌, true, Option, None, Some, IsSome, unwrap_or, List, [], ◌∷◌, ◌++◌, map, fold, length, string_bytes}
+use Rattle.std.specs.Prelude.{◌≡◌, ◌⊎◌, ℕ, ◌/◌, ◌%◌, true, false, Option, None, Some, IsSome, unwrap_or, List, [], ◌∷◌, ◌++◌, map, fold, length, string_bytes}
 use Rattle.std.specs.List.{position_from, range_with_len}
 use Rattle.std.specs.Str.{bytes_eq}
 use Rattle.serde_json.specs.Find.{get_member}
@@ -84,10 +84,6 @@ places_of names = map (place_of names)
 abbrev pub part_of : List (List ℕ) → Content → Part
 part_of names c = record { test = c.test; places = places_of names c.copies }
 
--- those of files that hold this
-abbrev pub parts_of : List (List ℕ) → List Content → List Part
-parts_of names = map (part_of names)
-
 -- the slot that stands for the site of this number: a name only
 abbrev pub key : ℕ → Slot
 key number = record { hart = number / 256; at = number % 256 }
@@ -103,7 +99,7 @@ offer_of prices number = record { slot = key number; costs = map (price_of price
 -- the question of files that hold this, with sites of these names
 abbrev pub question_of : PriceTable → List (List ℕ) → List Content → Question
 question_of prices names contents = record {
-  parts = parts_of names contents;
+  parts = map (part_of names) contents;
   offers = map (offer_of prices) (range_with_len 0 (length names));
 }
 

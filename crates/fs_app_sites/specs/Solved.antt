@@ -8,7 +8,7 @@ use Rattle.fs_sites.specs.Answers.{IsAnswer, IsSolveFault}
 use Rattle.fs_sites.specs.declared.answer.Answer.{Answer}
 use Rattle.fs_app_sites.specs.declared.content.File.{File}
 use Rattle.fs_app_sites.specs.Printed.{answer_text, status_of}
-use Rattle.fs_app_sites.specs.Sites.{Content, AreContents, AreSitePrices, IsFilesFault, IsSitePricesFault, names_of, parts_of, question_of}
+use Rattle.fs_app_sites.specs.Sites.{Content, AreContents, AreSitePrices, IsFilesFault, IsSitePricesFault, names_of, question_of}
 
 -- the files hold tests with copies of sites, the bytes hold prices, and the answer to their question is printed
 pub record IsSolved (is_json : Bool) (files : List File) (prices text : List ℕ) (status : Status) : Type 0 where

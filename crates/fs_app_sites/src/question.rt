@@ -6,7 +6,7 @@ ghost use Rattle.fs_kinds.specs.PriceTable.{IsPriceTable};
 ghost use Rattle.fs_kinds.specs.Slot.{is_rising};
 ghost use Rattle.fs_kinds.specs.declared.fault.Fault.TheVariants.{Memory};
 ghost use Rattle.fs_model.specs.Test.{IsTest};
-ghost use Rattle.fs_app_sites.specs.Sites.{copy_value, key, offer_of, part_of, parts_of, place_of, question_of};
+ghost use Rattle.fs_app_sites.specs.Sites.{copy_value, key, offer_of, part_of, place_of, question_of};
 ghost use Rattle.fs_app_sites.specs.Sites.{most_sites, places_of};
 
 use crate::content::{Content, SiteCopy};
@@ -109,7 +109,7 @@ fn part_of(alloc: Global, names: &[String], content: &Content) -> Result<Part, A
 
 /// The parts of all files.
 fn parts_of(alloc: Global, names: &[String], contents: &[Content]) -> Result<Vec<Part>, AllocError>
-    ensures { IfOk result (λ parts. parts.items ≡ parts_of (map string_bytes names.now) contents.now) }
+    ensures { IfOk result (λ parts. parts.items ≡ map (part_of (map string_bytes names.now)) contents.now) }
 {
     let mut parts = Vec::new(alloc);
     for content in contents {

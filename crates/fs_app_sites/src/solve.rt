@@ -5,7 +5,7 @@ ghost use Rattle.fs_kinds.specs.declared.fault.Fault.TheVariants.{Memory, NodeLi
 ghost use Rattle.fs_kinds.specs.PriceTable.{IsPriceTable};
 ghost use Rattle.fs_sites.specs.Answers.{IsAnswer, IsSolveFault};
 ghost use Rattle.fs_app_sites.specs.Printed.{answer_text, status_of};
-ghost use Rattle.fs_app_sites.specs.Sites.{AreContents, AreSitePrices, IsFilesFault, IsSound, names_of, parts_of, question_of};
+ghost use Rattle.fs_app_sites.specs.Sites.{AreContents, AreSitePrices, IsFilesFault, IsSound, names_of, question_of};
 ghost use Rattle.fs_app_sites.specs.Solved.{IsFirstSitesFault, IsSolved};
 
 use crate::content::{Content, File, read_content};

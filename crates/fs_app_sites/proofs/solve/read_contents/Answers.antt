@@ -1,4 +1,4 @@
-use Rattle.std.proofs.Common.{arith, subst, sym, take}
+use Rattle.std.proofs.Common.{arith, subst, sym, take, ◌++◌, ◌∷◌, [], ◌∙◌}
 use Rattle.std.specs.List.{All}
 use Rattle.std.proofs.lemmas.List.Elements.{All-push}
 use Rattle.fs_app_place_order.proofs.Faults.{IfErr-handed}
