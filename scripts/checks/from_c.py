@@ -54,7 +54,7 @@ def check_sites(run, names, lock):
 
     for name in names:
         text = re.sub(r"\b(\w+)_\d+: fence(?:\.tso| [riow]+,[riow]+)", placed, made_of(name, "--lock", lock, "--sites"))
-        verdict = rvfence("test", written(run.path("placed"), text), "-q").out.split()[1]
+        verdict = rvfence("test", written(run.path(f"placed-{lock}"), text), "-q").out.split()[1]
         run.expect(f"{name} with the fences found and {lock}", "forbidden", verdict)
 
 
