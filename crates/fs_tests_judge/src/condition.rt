@@ -1,5 +1,6 @@
 //! Conditions, and which trees and atoms they have.
 
+use crate::wrong::add_wrong;
 use fs_litmus_syntax::{Atom, Condition, Tree, read_condition};
 use fs_litmus_tokens::{Stop, Target, Value, tokens};
 use std::alloc::{AllocError, Global};
@@ -88,143 +89,155 @@ fn shown_around(alloc: Global, before: &str, after: &str, n: usize) -> Result<St
     shown(alloc, &text)
 }
 
-// How connectives bind and associate, which atoms there are, and that no word is reserved.
-#[test]
-fn reads_conditions(rt: HostRuntime) -> Result<(), Fail> {
-    for (text, wanted) in [
-        (
-            "x=1 /\\ y=2 \\/ z=3 /\\ w=4",
-            "| & x=1 y=2 & z=3 w=4 ; x y z w",
-        ),
-        ("x=1 \\/ y=2 \\/ z=3", "| | x=1 y=2 z=3 ; x y z"),
-        ("x=1 /\\ y=2 /\\ z=3", "& & x=1 y=2 z=3 ; x y z"),
-        ("x=1 /\\ (y=2 \\/ z=3)", "& x=1 | y=2 z=3 ; x y z"),
-        ("~x=1 /\\ not ~y=2", "& ~ x=1 ~ ~ y=2 ; x y"),
-        ("not (x=1 /\\ y=2) \\/ z=3", "| ~ & x=1 y=2 z=3 ; x y z"),
-        ("((x=1))", "x=1 ; x"),
-        ("1:x5=1", "1:x5=1 ; 1:x5"),
-        ("0x1:t.0=-7", "0x1:t.0=-7 ; 0x1:t.0"),
-        ("[x]=y", "x=&y ; x"),
-        ("x=0x10", "x=0x10 ; x"),
-        (
-            "exists=1 /\\ int=forall",
-            "& exists=1 int=&forall ; exists int",
-        ),
-        ("true=1", "true=1 ; true"),
-        ("not=1", "not=1 ; not"),
-        ("false=true", "false=&true ; false"),
-        ("not not=1", "~ not=1 ; not"),
-        ("not not not=1", "~ ~ not=1 ; not"),
-        ("not true", "~ T ;"),
-        ("not false=1", "~ false=1 ; false"),
-        ("true /\\ x=1", "& T x=1 ; x"),
-        ("~true=1", "~ true=1 ; true"),
-        ("(false) \\/ true", "| F T ;"),
-        ("x==1", "x=1 ; x"),
-        ("[x] == -1", "x=-1 ; x"),
-        ("x<>1", "~ x=1 ; x"),
-        ("1:x5!=y", "~ 1:x5=&y ; 1:x5"),
-        ("~ x!=-1 /\\ y=2", "& ~ ~ x=-1 y=2 ; x y"),
-        ("not<>1", "~ not=1 ; not"),
-        ("not not!=1 \\/ true==1", "| ~ ~ not=1 true=1 ; not true"),
-        ("false<>true", "~ false=&true ; false"),
-        ("x=1 => y=2", "| ~ x=1 y=2 ; x y"),
-        ("x=1 => y=2 => z=3", "| | ~ x=1 ~ y=2 z=3 ; x y z"),
-        (
-            "x=1 \\/ y=2 => z=3 \\/ w=4",
-            "| ~ | x=1 y=2 | z=3 w=4 ; x y z w",
-        ),
-        ("(x=1 => y=2) => z=3", "| ~ | ~ x=1 y=2 z=3 ; x y z"),
-        ("~x=1=>y=2 /\\ z=3", "| ~ ~ x=1 & y=2 z=3 ; x y z"),
-        ("true=1 => false=>x=1", "| | ~ true=1 ~ F x=1 ; true x"),
-        ("not=1 => true=>x<>1", "| | ~ not=1 ~ T ~ x=1 ; not x"),
-        ("x=1 /\\ y=2 ;", "& x=1 y=2 ; x y"),
-        ("~(x=1);", "~ x=1 ; x"),
-        ("true;", "T ;"),
-        ("false=1;", "false=1 ; false"),
-    ] {
-        let found = shown(rt.alloc(), text)?;
-        assert_eq!(rt; found.as_str(), wanted, "in {text}");
+// How connectives bind and associate, which atoms there are, and that no word is reserved; and where a condition stops
+// at its first bad token.
+const CONDITIONS: &[(&str, &str)] = &[
+    (
+        "x=1 /\\ y=2 \\/ z=3 /\\ w=4",
+        "| & x=1 y=2 & z=3 w=4 ; x y z w",
+    ),
+    ("x=1 \\/ y=2 \\/ z=3", "| | x=1 y=2 z=3 ; x y z"),
+    ("x=1 /\\ y=2 /\\ z=3", "& & x=1 y=2 z=3 ; x y z"),
+    ("x=1 /\\ (y=2 \\/ z=3)", "& x=1 | y=2 z=3 ; x y z"),
+    ("~x=1 /\\ not ~y=2", "& ~ x=1 ~ ~ y=2 ; x y"),
+    ("not (x=1 /\\ y=2) \\/ z=3", "| ~ & x=1 y=2 z=3 ; x y z"),
+    ("((x=1))", "x=1 ; x"),
+    ("1:x5=1", "1:x5=1 ; 1:x5"),
+    ("0x1:t.0=-7", "0x1:t.0=-7 ; 0x1:t.0"),
+    ("[x]=y", "x=&y ; x"),
+    ("x=0x10", "x=0x10 ; x"),
+    (
+        "exists=1 /\\ int=forall",
+        "& exists=1 int=&forall ; exists int",
+    ),
+    ("true=1", "true=1 ; true"),
+    ("not=1", "not=1 ; not"),
+    ("false=true", "false=&true ; false"),
+    ("not not=1", "~ not=1 ; not"),
+    ("not not not=1", "~ ~ not=1 ; not"),
+    ("not true", "~ T ;"),
+    ("not false=1", "~ false=1 ; false"),
+    ("true /\\ x=1", "& T x=1 ; x"),
+    ("~true=1", "~ true=1 ; true"),
+    ("(false) \\/ true", "| F T ;"),
+    ("x==1", "x=1 ; x"),
+    ("[x] == -1", "x=-1 ; x"),
+    ("x<>1", "~ x=1 ; x"),
+    ("1:x5!=y", "~ 1:x5=&y ; 1:x5"),
+    ("~ x!=-1 /\\ y=2", "& ~ ~ x=-1 y=2 ; x y"),
+    ("not<>1", "~ not=1 ; not"),
+    ("not not!=1 \\/ true==1", "| ~ ~ not=1 true=1 ; not true"),
+    ("false<>true", "~ false=&true ; false"),
+    ("x=1 => y=2", "| ~ x=1 y=2 ; x y"),
+    ("x=1 => y=2 => z=3", "| | ~ x=1 ~ y=2 z=3 ; x y z"),
+    (
+        "x=1 \\/ y=2 => z=3 \\/ w=4",
+        "| ~ | x=1 y=2 | z=3 w=4 ; x y z w",
+    ),
+    ("(x=1 => y=2) => z=3", "| ~ | ~ x=1 y=2 z=3 ; x y z"),
+    ("~x=1=>y=2 /\\ z=3", "| ~ ~ x=1 & y=2 z=3 ; x y z"),
+    ("true=1 => false=>x=1", "| | ~ true=1 ~ F x=1 ; true x"),
+    ("not=1 => true=>x<>1", "| | ~ not=1 ~ T ~ x=1 ; not x"),
+    ("x=1 /\\ y=2 ;", "& x=1 y=2 ; x y"),
+    ("~(x=1);", "~ x=1 ; x"),
+    ("true;", "T ;"),
+    ("false=1;", "false=1 ; false"),
+    ("", "0 left"),
+    ("x", "0 left"),
+    ("(x=1", "0 left"),
+    ("not", "0 left"),
+    ("5=1", "2 left"),
+    ("x=1 y", "1 left"),
+    ("x=1)", "1 left"),
+    ("()", "1 left"),
+    ("true true", "1 left"),
+    ("[5]=1", "4 left"),
+    ("x=-y /\\ z=1", "5 left"),
+    ("x===1", "2 left"),
+    ("x=!1", "2 left"),
+    ("x<1", "1 left"),
+    ("x!1", "1 left"),
+    ("x<=1", "2 left"),
+    ("x><1", "3 left"),
+    ("x!==1", "2 left"),
+    ("true!1", "1 left"),
+    ("x=1 /\\ \\/ y=1", "4 left"),
+    ("x=1 =", "0 left"),
+    ("x=1 =>", "0 left"),
+    ("x=1 = y", "1 left"),
+    ("x=1 ==> y=1", "5 left"),
+    ("x=1 -> y=1", "5 left"),
+    ("x=>y=1", "4 left"),
+    ("not=>1", "2 left"),
+    ("true=>=1", "2 left"),
+    ("(true=", "0 left"),
+    ("x=1 => ;", "1 left"),
+    ("x=1 ; y=1", "3 left"),
+    ("x=1 ;;", "1 left"),
+    ("(x=1;)", "2 left"),
+    ("x=;", "1 left"),
+    ("not;", "1 left"),
+    (";", "1 left"),
+    ("x=$1", "2 left"),
+];
+
+// What stands before and after `x=1`, how often, and whether there is a tree: of conditions of depth 64 there is one, and
+// of deeper ones none.
+const DEPTHS: &[(&str, &str, usize, bool)] = &[
+    ("(", ")", 64, true),
+    ("(", ")", 65, false),
+    ("~", "", 64, true),
+    ("not ", "", 65, false),
+    ("~(", ")", 32, true),
+    ("~ y!=1 /\\ ~(", ")", 31, true),
+    ("~ y!=1 /\\ ~(", ")", 32, false),
+    ("~(", ")", 33, false),
+    ("y=1 => ", "", 63, true),
+    ("y=1 => ", "", 64, false),
+    ("(", " => y=1)", 32, true),
+    ("(", " => y=1)", 33, false),
+    ("", " /\\ y=1", 64, true),
+    ("", " /\\ y=1", 65, false),
+    ("", " \\/ y=1", 64, true),
+    ("", " \\/ y=1", 65, false),
+    ("y=1 /\\ (", ")", 64, true),
+    ("y=1 \\/ (", ")", 65, false),
+];
+
+/// Adds the conditions that aren't read as the table says.
+fn add_conditions(
+    alloc: Global,
+    rows: &[(&str, &str)],
+    wrong: &mut String,
+) -> Result<(), AllocError> {
+    for (text, wanted) in rows {
+        let found = shown(alloc, text)?;
+        add_wrong(text, &found, wanted, wrong)?;
+    }
+    Ok(())
+}
+
+/// Adds the conditions that have a tree, or none, against the table.
+fn add_depths(
+    alloc: Global,
+    rows: &[(&str, &str, usize, bool)],
+    wrong: &mut String,
+) -> Result<(), AllocError> {
+    for (before, after, n, fine) in rows {
+        let found = shown_around(alloc, before, after, *n)?;
+        if found.starts_with("deep ") == *fine {
+            wrong.push_str(before)?;
+            wrong.push_str("\n")?;
+        }
     }
     Ok(())
 }
 
 #[test]
-fn stops_at_the_first_bad_token(rt: HostRuntime) -> Result<(), Fail> {
-    for (text, wanted) in [
-        ("", "0 left"),
-        ("x", "0 left"),
-        ("(x=1", "0 left"),
-        ("not", "0 left"),
-        ("5=1", "2 left"),
-        ("x=1 y", "1 left"),
-        ("x=1)", "1 left"),
-        ("()", "1 left"),
-        ("true true", "1 left"),
-        ("[5]=1", "4 left"),
-        ("x=-y /\\ z=1", "5 left"),
-        ("x===1", "2 left"),
-        ("x=!1", "2 left"),
-        ("x<1", "1 left"),
-        ("x!1", "1 left"),
-        ("x<=1", "2 left"),
-        ("x><1", "3 left"),
-        ("x!==1", "2 left"),
-        ("true!1", "1 left"),
-        ("x=1 /\\ \\/ y=1", "4 left"),
-        ("x=1 =", "0 left"),
-        ("x=1 =>", "0 left"),
-        ("x=1 = y", "1 left"),
-        ("x=1 ==> y=1", "5 left"),
-        ("x=1 -> y=1", "5 left"),
-        ("x=>y=1", "4 left"),
-        ("not=>1", "2 left"),
-        ("true=>=1", "2 left"),
-        ("(true=", "0 left"),
-        ("x=1 => ;", "1 left"),
-        ("x=1 ; y=1", "3 left"),
-        ("x=1 ;;", "1 left"),
-        ("(x=1;)", "2 left"),
-        ("x=;", "1 left"),
-        ("not;", "1 left"),
-        (";", "1 left"),
-        ("x=$1", "2 left"),
-    ] {
-        let found = shown(rt.alloc(), text)?;
-        assert_eq!(rt; found.as_str(), wanted, "in {text}");
-    }
-    Ok(())
-}
-
-// Conditions of depth 64 have a tree, and deeper ones have none.
-#[test]
-fn counts_the_depth(rt: HostRuntime) -> Result<(), Fail> {
-    for (before, after, n, fine) in [
-        ("(", ")", 64, true),
-        ("(", ")", 65, false),
-        ("~", "", 64, true),
-        ("not ", "", 65, false),
-        ("~(", ")", 32, true),
-        ("~ y!=1 /\\ ~(", ")", 31, true),
-        ("~ y!=1 /\\ ~(", ")", 32, false),
-        ("~(", ")", 33, false),
-        ("y=1 => ", "", 63, true),
-        ("y=1 => ", "", 64, false),
-        ("(", " => y=1)", 32, true),
-        ("(", " => y=1)", 33, false),
-        ("", " /\\ y=1", 64, true),
-        ("", " /\\ y=1", 65, false),
-        ("", " \\/ y=1", 64, true),
-        ("", " \\/ y=1", 65, false),
-        ("y=1 /\\ (", ")", 64, true),
-        ("y=1 \\/ (", ")", 65, false),
-    ] {
-        let found = shown_around(rt.alloc(), before, after, n)?;
-        let is_deep = found.as_str().starts_with("deep ");
-        assert!(rt;
-            is_deep != fine,
-            "at {n} times {before} and {after}: {found}"
-        );
-    }
+fn conditions(rt: HostRuntime) -> Result<(), Fail> {
+    let mut wrong = String::new(rt.alloc());
+    add_conditions(rt.alloc(), CONDITIONS, &mut wrong)?;
+    add_depths(rt.alloc(), DEPTHS, &mut wrong)?;
+    assert_eq!(rt; wrong.as_str(), "");
     Ok(())
 }

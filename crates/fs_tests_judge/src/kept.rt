@@ -52,7 +52,7 @@ fn all_hunted(alloc: Global, text: &str, fences: &[&str]) -> Result<String, Faul
     Ok(lines)
 }
 
-const LOCK3_FENCES: [&str; 5] = [
+const LOCK3_FENCES: &[&str] = &[
     "P0:3=r,r P0:7=w,w P1:3=r,r P1:7=w,w P2:3=r,r P2:7=w,w",
     "P0:3=r,r P0:7=w,w P1:3=r,r P1:7=w,w P2:3=r,r P2:7=w,w",
     "P0:3=rw,rw P0:7=rw,rw P1:3=rw,rw P1:7=rw,rw P2:3=rw,rw P2:7=rw,rw",
@@ -63,7 +63,7 @@ const LOCK3_FENCES: [&str; 5] = [
 /// What was refuted once needs no look with the same fences or with more.
 #[test]
 fn trees_are_kept(rt: HostRuntime) -> Result<(), Fail> {
-    let found = all_hunted(rt.alloc(), LOCK3, &LOCK3_FENCES)?;
+    let found = all_hunted(rt.alloc(), LOCK3, LOCK3_FENCES)?;
     assert_eq!(rt;
         found.as_str(),
         "refuted false false
@@ -123,7 +123,7 @@ fn all_judged(alloc: Global, tests: &[&str], fences: &[&str]) -> Result<String, 
     Ok(text)
 }
 
-const TWO_SLOTS: [&str; 9] = [
+const TWO_SLOTS: &[&str] = &[
     "",
     "P0:2=w,r",
     "P1:2=w,r",
@@ -135,7 +135,7 @@ const TWO_SLOTS: [&str; 9] = [
     "P0:2=w,r P1:2=rw,rw",
 ];
 
-const LOCK_FENCES: [&str; 9] = [
+const LOCK_FENCES: &[&str] = &[
     "P0:3=r,r P0:7=w,w P1:3=r,r P1:7=w,w",
     "P0:7=w,w P1:3=r,r P1:7=w,w",
     "P0:3=r,r P1:3=r,r P1:7=w,w",
@@ -147,7 +147,7 @@ const LOCK_FENCES: [&str; 9] = [
     "P0:3=r,r P0:7=w,w P1:3=r,r P1:7=w,w",
 ];
 
-const WAITERS_FENCES: [&str; 7] = [
+const WAITERS_FENCES: &[&str] = &[
     "",
     "P0:1=r,r P4:1=rw,rw",
     "P0:1=r,r P1:1=r,r P4:1=rw,rw",
@@ -157,36 +157,31 @@ const WAITERS_FENCES: [&str; 7] = [
     "P0:1=rw,rw P1:1=rw,rw P2:1=rw,rw P3:1=rw,rw P4:1=rw,rw",
 ];
 
-/// Store buffering needs a fence of stores before loads in both harts. Of the lock's four fences each is needed: a hart
+/// Store buffering needs a fence of stores before loads in both harts.
+const STORES: &[&str] = &[SB, ALWAYS, CASES];
+
+/// What is said of store buffering, of the lock, and of five harts. Of the lock's four fences each is needed: a hart
 /// that comes second may load what there was before the first one stored, if its load isn't behind its AMO or the store
-/// of the first one isn't before the release.
+/// of the first one isn't before the release. Each of the five harts needs a fence between its AMO or store and its
+/// load. With more fences orders of AMOs follow near the root that with fewer were decided, or followed the other way,
+/// below.
+fn said_in_turn(alloc: Global) -> Result<String, Fault> {
+    let mut text = all_judged(alloc, STORES, TWO_SLOTS)?;
+    write_all_judged(alloc, LOCK, LOCK_FENCES, &mut text)?;
+    write_all_judged(alloc, WAITERS, WAITERS_FENCES, &mut text)?;
+    Ok(text)
+}
+
 #[test]
 fn kept_trees_hold(rt: HostRuntime) -> Result<(), Fail> {
-    let stores = all_judged(rt.alloc(), &[SB, ALWAYS, CASES], &TWO_SLOTS)?;
+    let said = said_in_turn(rt.alloc())?;
     assert_eq!(rt;
-        stores.as_str(),
+        said.as_str(),
         "+++-+++-- 0
 +++-+++-- 0
 +++-+++-- 0
-"
-    );
-    let lock = all_judged(rt.alloc(), &[LOCK], &LOCK_FENCES)?;
-    assert_eq!(rt;
-        lock.as_str(),
-        "-++++-+-- 0
-"
-    );
-    Ok(())
-}
-
-/// Each of the five harts needs a fence between its AMO or store and its load. With more fences orders of AMOs follow
-/// near the root that with fewer were decided, or followed the other way, below.
-#[test]
-fn orders_that_follow_above_hold(rt: HostRuntime) -> Result<(), Fail> {
-    let found = all_judged(rt.alloc(), &[WAITERS], &WAITERS_FENCES)?;
-    assert_eq!(rt;
-        found.as_str(),
-        "++++-+- 0
+-++++-+-- 0
+++++-+- 0
 "
     );
     Ok(())

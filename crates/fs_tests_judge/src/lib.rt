@@ -4,6 +4,8 @@
 #![tactic(auto)]
 
 #[cfg(test)]
+mod choices;
+#[cfg(test)]
 mod condition;
 #[cfg(test)]
 mod executions;
@@ -29,3 +31,5 @@ mod subtrees;
 mod texts;
 #[cfg(test)]
 mod traces;
+#[cfg(test)]
+mod wrong;

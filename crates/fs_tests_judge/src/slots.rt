@@ -1,6 +1,7 @@
 //! Which slots a test has, and where they are in the fenced test, read back from its printed form.
 ghost use Rattle.fs_model.specs.Test.{IsBounded, IsTest};
 
+use crate::wrong::add_wrong;
 use fs_kinds::{Fault, Placement, Slot};
 use fs_litmus::{Test, fence, read_test, slots};
 use fs_tests_shared::{MP, MPB, placement_of, told};
@@ -31,7 +32,7 @@ exists (0:x5=0)
 fn slots_text(alloc: Global, slots: &[Slot]) -> Result<String, AllocError> {
     let mut text = String::new(alloc);
     for slot in slots {
-        write!(text, "{slot} ")?;
+        write!(text, "P{}:{} ", slot.hart, slot.at)?;
     }
     Ok(text)
 }
@@ -59,20 +60,30 @@ fn fenced_slots(alloc: Global, text: &str, words: &str) -> Result<String, Fault>
     slots_with(alloc, &test, &placement)
 }
 
+/// Tests, fences, and the slots of the test with these.
+const SLOTS: &[(&str, &str, &str)] = &[
+    (MP, "", "P0:3 P1:1 "),
+    (MP, "P0:3=w,w P1:1=r,r", "P0:4 P1:2 "),
+    (MPB, "", "P0:3 P1:2 "),
+    (MPB, "P1:2=r,r", "P0:3 P1:3 "),
+    (NO_SLOT, "", ""),
+    (FULL, "P0:31=r,r", "fault F9 TooBig instructions"),
+    (FULL, "P0:32=r,r", "fault F12 BadFence"),
+];
+
+/// The tests that have other slots than the table says.
+fn wrong_slots(alloc: Global, rows: &[(&str, &str, &str)]) -> Result<String, AllocError> {
+    let mut wrong = String::new(alloc);
+    for (text, words, wanted) in rows {
+        let found = told(alloc, fenced_slots(alloc, text, words))?;
+        add_wrong(text, &found, wanted, &mut wrong)?;
+    }
+    Ok(wrong)
+}
+
 #[test]
 fn slots_move_with_their_instructions(rt: HostRuntime) -> Result<(), Fail> {
-    let rows = [
-        (MP, "", "P0:3 P1:1 "),
-        (MP, "P0:3=w,w P1:1=r,r", "P0:4 P1:2 "),
-        (MPB, "", "P0:3 P1:2 "),
-        (MPB, "P1:2=r,r", "P0:3 P1:3 "),
-        (NO_SLOT, "", ""),
-        (FULL, "P0:31=r,r", "fault F9 TooBig instructions"),
-        (FULL, "P0:32=r,r", "fault F12 BadFence"),
-    ];
-    for (text, words, wanted) in rows {
-        let found = told(rt.alloc(), fenced_slots(rt.alloc(), text, words))?;
-        assert_eq!(rt; found.as_str(), wanted, "with {words} in {text}");
-    }
+    let wrong = wrong_slots(rt.alloc(), SLOTS)?;
+    assert_eq!(rt; wrong.as_str(), "");
     Ok(())
 }

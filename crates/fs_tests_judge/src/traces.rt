@@ -1,8 +1,10 @@
 //! What choices make of a hart, the dependencies in its runs, and all runs over sets of words.
 ghost use Rattle.std.specs.List.Sorted.{IsStrictlyIncreasing};
 
+use crate::choices::choices_of;
+use crate::wrong::add_wrong;
 use fs_deps::Deps;
-use fs_hart::{Choice, Run, Trace, trace_of};
+use fs_hart::{Run, Trace, trace_of};
 use fs_kinds::Fault;
 use fs_litmus::read_test;
 use fs_tests_shared::{FORWARDED, LBC, LRSC, LRSCY, MPA, MPB, POINTER, runs_of, told};
@@ -60,12 +62,13 @@ fn trace_text(alloc: Global, trace: &Trace) -> Result<String, Fault> {
 }
 
 /// The words and the dependencies of the run that the choices make of the hart; or why there is no such run.
-fn run_text(alloc: Global, text: &str, hart: u8, choices: &[Choice]) -> Result<String, Fault> {
+fn run_text(alloc: Global, text: &str, hart: u8, choices: &str) -> Result<String, Fault> {
+    let choices = choices_of(alloc, choices)?;
     let test = read_test(alloc, text.as_bytes())?;
     if usize::from(hart) >= test.codes.as_slice().len() {
         return Err(Fault::BadWitness);
     }
-    let why = match trace_of(alloc, &test, hart, choices)? {
+    let why = match trace_of(alloc, &test, hart, &choices)? {
         Run::Whole(trace) => return trace_text(alloc, &trace),
         Run::Short => "short",
         Run::Long => "long",
@@ -76,51 +79,32 @@ fn run_text(alloc: Global, text: &str, hart: u8, choices: &[Choice]) -> Result<S
     Ok(String::from_str(alloc, why)?)
 }
 
-#[test]
-fn choices_make_runs(rt: HostRuntime) -> Result<(), Fail> {
-    let rows: [(&str, u8, &[Choice], &str); 10] = [
-        (MPB, 1, &[Choice::Word(1)], "short"),
-        (
-            MPB,
-            1,
-            &[Choice::Word(1), Choice::Word(0), Choice::Word(0)],
-            "long",
-        ),
-        (MPB, 1, &[Choice::Success], "bad choice"),
-        (LRSCY, 0, &[Choice::Word(0), Choice::Success], "bad sc.w"),
-        (LRSCY, 0, &[Choice::Word(0), Choice::Failure], "0 -0 | "),
-        // An address depends on a load through arithmetic,
-        (
-            MPA,
-            1,
-            &[Choice::Word(1), Choice::Word(0)],
-            "1 -0 -0 0 | 03:4 13:4 23:4 ",
-        ),
-        // a branch controls what follows it,
-        (
-            MPB,
-            1,
-            &[Choice::Word(1), Choice::Word(0)],
-            "1 -0 0 | 02:1 ",
-        ),
-        (LBC, 0, &[Choice::Word(1)], "1 -0 -0 =1 | 02:1 03:1 23:2 "),
-        // and a load carries nothing.
-        (
-            FORWARDED,
-            0,
-            &[Choice::Word(0), Choice::Word(0)],
-            "0 =0 0 | 01:2 ",
-        ),
-        (
-            POINTER,
-            0,
-            &[Choice::Word(4128), Choice::Word(0)],
-            "4128 0 =0 | 01:4 ",
-        ),
-    ];
+/// Tests, harts, and their runs by these choices.
+const RUNS: &[(&str, u8, &str, &str)] = &[
+    (MPB, 1, "1", "short"),
+    (MPB, 1, "1 0 0", "long"),
+    (MPB, 1, "success", "bad choice"),
+    (LRSCY, 0, "0 success", "bad sc.w"),
+    (LRSCY, 0, "0 failure", "0 -0 | "),
+    // An address depends on a load through arithmetic,
+    (MPA, 1, "1 0", "1 -0 -0 0 | 03:4 13:4 23:4 "),
+    // a branch controls what follows it,
+    (MPB, 1, "1 0", "1 -0 0 | 02:1 "),
+    (LBC, 0, "1", "1 -0 -0 =1 | 02:1 03:1 23:2 "),
+    // and a load carries nothing.
+    (FORWARDED, 0, "0 0", "0 =0 0 | 01:2 "),
+    (POINTER, 0, "4128 0", "4128 0 =0 | 01:4 "),
+];
+
+/// Adds the tests whose runs aren't those of the table.
+fn add_wrong_runs(
+    alloc: Global,
+    rows: &[(&str, u8, &str, &str)],
+    wrong: &mut String,
+) -> Result<(), AllocError> {
     for (text, hart, choices, wanted) in rows {
-        let found = told(rt.alloc(), run_text(rt.alloc(), text, hart, choices))?;
-        assert_eq!(rt; found.as_str(), wanted, "of {text}");
+        let found = told(alloc, run_text(alloc, text, *hart, choices))?;
+        add_wrong(text, &found, wanted, wrong)?;
     }
     Ok(())
 }
@@ -145,31 +129,36 @@ fn runs_text(alloc: Global, text: &str, words: &[u32]) -> Result<String, Fault>
     Ok(first_runs(alloc, &runs)?)
 }
 
-/// Writes the words of these runs, or the line of the fault, with `/` behind them.
-fn write_runs(
+/// Adds the words of these runs, or the line of the fault, unless that is what was wanted.
+fn add_wrong_list(
     alloc: Global,
     text: &str,
     words: &[u32],
-    written: &mut String,
+    wanted: &str,
+    wrong: &mut String,
 ) -> Result<(), AllocError>
     requires { IsStrictlyIncreasing words.now }
 {
     let line = told(alloc, runs_text(alloc, text, words))?;
-    write!(written, "{line}/ ")
+    add_wrong(text, &line, wanted, wrong)
 }
 
 /// Words rise and success comes before failure; what can't be is left out; a loaded address leads on, or astray. x and
 /// y have the addresses 4096 and 4112.
+fn add_wrong_lists(alloc: Global, wrong: &mut String) -> Result<(), AllocError> {
+    let both = "0 =1 | 0 -0 | 2 =1 | 2 -0 | ";
+    add_wrong_list(alloc, LRSC, &[0, 2], both, wrong)?;
+    add_wrong_list(alloc, LRSCY, &[3, 7], "3 -0 | 7 -0 | ", wrong)?;
+    let four = "4096 4096 | 4096 4112 | 4112 4096 | 4112 4112 | ";
+    add_wrong_list(alloc, LOADED, &[4096, 4112], four, wrong)?;
+    add_wrong_list(alloc, LOADED, &[4112, 4113], "fault F14 Astray P0:1", wrong)
+}
+
 #[test]
-fn runs_come_in_order(rt: HostRuntime) -> Result<(), Fail> {
-    let mut found = String::new(rt.alloc());
-    write_runs(rt.alloc(), LRSC, &[0, 2], &mut found)?;
-    write_runs(rt.alloc(), LRSCY, &[3, 7], &mut found)?;
-    write_runs(rt.alloc(), LOADED, &[4096, 4112], &mut found)?;
-    write_runs(rt.alloc(), LOADED, &[4112, 4113], &mut found)?;
-    assert_eq!(rt;
-        found.as_str(),
-        "0 =1 | 0 -0 | 2 =1 | 2 -0 | / 3 -0 | 7 -0 | / 4096 4096 | 4096 4112 | 4112 4096 | 4112 4112 | / fault F14 Astray P0:1/ "
-    );
+fn choices_make_runs(rt: HostRuntime) -> Result<(), Fail> {
+    let mut wrong = String::new(rt.alloc());
+    add_wrong_runs(rt.alloc(), RUNS, &mut wrong)?;
+    add_wrong_lists(rt.alloc(), &mut wrong)?;
+    assert_eq!(rt; wrong.as_str(), "");
     Ok(())
 }

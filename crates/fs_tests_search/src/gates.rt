@@ -127,6 +127,11 @@ impl<'a, C: Clock> Gate for Overlap<'a, C> {
     }
 }
 
+/// Is it the answer, to which both workers have come?
+fn is_shared(line: &str) -> bool {
+    line.starts_with("fenced 18 ") && line.contains(" by 0 1")
+}
+
 #[test]
 fn gate_first(rt: HostRuntime) -> Result<(), Fail> {
     for _round in 0..ROUNDS {
@@ -135,8 +140,7 @@ fn gate_first(rt: HostRuntime) -> Result<(), Fail> {
             held: Held::new(),
         };
         let line = answered_by_two(&rt, rt.alloc(), &gate, &gate.held.ends)?;
-        assert!(rt; line.starts_with("fenced 18 ") && line.contains(" by 0 1"));
-        assert!(rt; gate.held.is_good());
+        assert!(rt; is_shared(&line) && gate.held.is_good());
     }
     Ok(())
 }
@@ -149,8 +153,7 @@ fn gate_overlap(rt: HostRuntime) -> Result<(), Fail> {
             held: Held::new(),
         };
         let line = answered_by_two(&rt, rt.alloc(), &gate, &gate.held.ends)?;
-        assert!(rt; line.starts_with("fenced 18 ") && line.contains(" by 0 1"));
-        assert!(rt; gate.held.is_good());
+        assert!(rt; is_shared(&line) && gate.held.is_good());
     }
     Ok(())
 }

@@ -74,15 +74,20 @@ fn two_workers_look_at_one_refutation(rt: HostRuntime) -> Result<(), Fail> {
     Ok(())
 }
 
+/// Hunts that one worker makes, since they are short or there is no other.
+const SHORT: &[(&str, u8)] = &[(SB, 4), (LOCK, 1)];
+
 #[test]
 fn short_hunts_are_hunted_by_one(rt: HostRuntime) -> Result<(), Fail> {
-    for (text, workers) in [(SB, 4), (LOCK, 1)] {
-        let (hunts, checks) = shared(&rt, rt.alloc(), text, workers)?;
-        assert_eq!(rt; hunts, 0);
-        assert_eq!(rt; checks, 0);
+    for (text, workers) in SHORT {
+        let (hunts, checks) = shared(&rt, rt.alloc(), text, *workers)?;
+        assert!(rt; hunts == 0 && checks == 0);
     }
     Ok(())
 }
+
+/// How many workers hunt together.
+const SEVERAL: &[u8] = &[2, 3, 16];
 
 /// A load of the data before the swap, and a store to it after the lock is free, lose an addition. So each hart needs
 /// `r,r` behind its swap, for 3, and `w,w` before it gives the lock back, for 2.
@@ -90,8 +95,8 @@ fn short_hunts_are_hunted_by_one(rt: HostRuntime) -> Result<(), Fail> {
 fn hunters_find_the_same_fences(rt: HostRuntime) -> Result<(), Fail> {
     let alone = answered(&rt, rt.alloc(), LOCK, 1, 1_000_000, &Open)?;
     assert!(rt; alone.starts_with("fenced 20 "));
-    for workers in [2, 3, 16] {
-        let line = answered(&rt, rt.alloc(), LOCK, workers, 1_000_000, &Open)?;
+    for workers in SEVERAL {
+        let line = answered(&rt, rt.alloc(), LOCK, *workers, 1_000_000, &Open)?;
         assert_eq!(rt; line.as_str(), alone.as_str());
     }
     Ok(())

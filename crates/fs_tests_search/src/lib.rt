@@ -28,3 +28,5 @@ mod states;
 mod states_texts;
 #[cfg(test)]
 mod workers;
+#[cfg(test)]
+mod wrong;

@@ -87,9 +87,10 @@ fn are_few(alloc: Global, rows: &[(&str, usize)]) -> Result<bool, Fault> {
 
 /// Store buffering needs two fences, and they are posted only at a node where both slots are decided. So 15 nodes are
 /// the fewest: the root, seven that decide one of the slots, since six kinds are offered, and seven below one of these.
+const MOST_NODES: &[(&str, usize)] = &[(PASSED, 100), (BUFFERED, 100), (ADDERS, 1), (SB, 15)];
+
 #[test]
 fn hunts_and_plans_go_on_for_long(rt: HostRuntime) -> Result<(), Fail> {
-    let rows = [(PASSED, 100), (BUFFERED, 100), (ADDERS, 1), (SB, 15)];
-    assert!(rt; are_few(rt.alloc(), &rows)?);
+    assert!(rt; are_few(rt.alloc(), MOST_NODES)?);
     Ok(())
 }

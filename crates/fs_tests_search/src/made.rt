@@ -4,7 +4,7 @@ use fs_tests_shared::Digits;
 use std::alloc::{AllocError, Global};
 
 /// What a cell may have, with the number of its memory instructions: x5 is 1 in hart 0 and 2 in hart 1.
-const CELLS: [(&str, usize); 13] = [
+const CELLS: &[(&str, usize)] = &[
     ("lw x7,0(x6)", 1),
     ("lw x9,0(x8)", 1),
     ("lw x7,0(x6)", 1),
@@ -29,9 +29,11 @@ const MOST_ACCESSES: usize = 4;
 
 /// The next cell, which is empty once there are enough memory instructions.
 fn next_cell(digits: &mut Digits, accesses: &mut usize) -> &'static str {
-    let (cell, count) = CELLS[digits.take(CELLS.len()) % CELLS.len()];
-    *accesses = accesses.saturating_add(count);
-    if *accesses > MOST_ACCESSES { "" } else { cell }
+    let Some((cell, count)) = CELLS.get(digits.take(CELLS.len())) else {
+        return "";
+    };
+    *accesses = accesses.saturating_add(*count);
+    if *accesses > MOST_ACCESSES { "" } else { *cell }
 }
 
 /// The test of this number.

@@ -101,7 +101,12 @@ impl Marks {
 
     /// Are the listed states those that were met?
     fn agree(&self) -> bool {
-        self.unlisted == 0 && self.met.iter().all(|met| *met)
+        for met in &self.met {
+            if !*met {
+                return false;
+            }
+        }
+        self.unlisted == 0
     }
 }
 
@@ -195,14 +200,22 @@ fn compared(alloc: Global, number: usize) -> Result<Marks, Fault> {
     Ok(marks)
 }
 
-#[test]
-fn made_tests_have_the_plain_states(rt: HostRuntime) -> Result<(), Fail> {
+/// How many states the made tests below this number have; 0 where a plain program meets others.
+fn states_met(alloc: Global, end: usize) -> Result<usize, Fault> {
     let mut count: usize = 0;
-    for number in 1..17 {
-        let marks = compared(rt.alloc(), number)?;
-        assert!(rt; marks.agree(), "made test {number}");
+    for number in 1..end {
+        let marks = compared(alloc, number)?;
+        if !marks.agree() {
+            return Ok(0);
+        }
         count = count.saturating_add(marks.met.len());
     }
+    Ok(count)
+}
+
+#[test]
+fn made_tests_have_the_plain_states(rt: HostRuntime) -> Result<(), Fail> {
+    let count = states_met(rt.alloc(), 17)?;
     assert!(rt; count > 24, "{count} states");
     Ok(())
 }

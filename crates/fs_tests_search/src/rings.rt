@@ -4,7 +4,7 @@ ghost use Rattle.fs_pool.specs.Ring.{AreLinked, IsSameHand};
 
 use fs_kinds::Fault;
 use fs_pool::{Hand, gather, hands};
-use std::alloc::Global;
+use std::alloc::{AllocError, Global};
 use std::test::Fail;
 
 /// What a hand is to do.
@@ -65,45 +65,104 @@ fn play(
     Ok((given, left))
 }
 
-#[test]
-fn both_hands_get_a_number(rt: HostRuntime) -> Result<(), Fail> {
-    let moves = [
-        (0, Move::Push(4)),
-        (0, Move::Push(5)),
-        (0, Move::Push(6)),
-        (1, Move::Steal),
-        (0, Move::Pop),
-    ];
-    let (mut numbers, mut left) = play(rt.alloc(), 2, &moves)?;
-    assert!(rt; numbers.len() == 2 && left.len() == 1);
+/// Writes the numbers.
+fn write_numbers(numbers: &[usize], text: &mut String) -> Result<(), AllocError> {
+    for number in numbers {
+        write!(text, "{number} ")?;
+    }
+    Ok(())
+}
+
+/// Writes the numbers that the moves give, and those that are left.
+fn write_played(
+    alloc: Global,
+    workers: u8,
+    moves: &[(usize, Move)],
+    text: &mut String,
+) -> Result<(), Fault>
+    requires { 0 < workers }
+{
+    let (given, left) = play(alloc, workers, moves)?;
+    write_numbers(&given, text)?;
+    text.push_str("and ")?;
+    write_numbers(&left, text)?;
+    Ok(text.push_str("left\n")?)
+}
+
+/// Writes how many numbers the moves give, how many are left, and all of them.
+fn write_counted(
+    alloc: Global,
+    workers: u8,
+    moves: &[(usize, Move)],
+    text: &mut String,
+) -> Result<(), Fault>
+    requires { 0 < workers }
+{
+    let (mut numbers, mut left) = play(alloc, workers, moves)?;
+    write!(text, "{} and {} left: ", numbers.len(), left.len())?;
     numbers.append(&mut left)?;
     numbers.sort_unstable();
-    assert!(rt; matches!(numbers.as_slice(), [4, 5, 6]));
-    Ok(())
+    write_numbers(&numbers, text)?;
+    Ok(text.push_str("\n")?)
+}
+
+/// Two hands, of which each gets a number.
+const TWO: &[(usize, Move)] = &[
+    (0, Move::Push(4)),
+    (0, Move::Push(5)),
+    (0, Move::Push(6)),
+    (1, Move::Steal),
+    (0, Move::Pop),
+];
+
+/// A single hand, which steals nothing.
+const SINGLE: &[(usize, Move)] = &[(0, Move::Push(7)), (0, Move::Steal)];
+
+const THREE: &[(usize, Move)] = &[
+    (0, Move::Push(1)),
+    (1, Move::Push(2)),
+    (1, Move::Push(2)),
+    (2, Move::Push(3)),
+    (0, Move::Steal),
+    (2, Move::Steal),
+    (2, Move::Steal),
+    (1, Move::Push(4)),
+];
+
+/// Writes whether a hand is empty at first, with a number, and when that has been popped.
+fn write_emptiness(alloc: Global, text: &mut String) -> Result<(), Fault> {
+    let mut ring = hands(alloc, 1)?;
+    let Some(mut hand) = ring.pop() else {
+        return Ok(());
+    };
+    write!(text, "{} ", hand.is_empty())?;
+    hand.push(5)?;
+    write!(text, "{} ", hand.is_empty())?;
+    let _five = hand.pop();
+    Ok(write!(text, "{}\n", hand.is_empty())?)
+}
+
+/// What hands of one, two and three workers do.
+fn all_played(alloc: Global) -> Result<String, Fault> {
+    let mut text = String::new(alloc);
+    write_counted(alloc, 2, TWO, &mut text)?;
+    write_played(alloc, 1, SINGLE, &mut text)?;
+    write_played(alloc, 3, THREE, &mut text)?;
+    write_emptiness(alloc, &mut text)?;
+    Ok(text)
 }
 
 #[test]
-fn a_single_hand_steals_nothing(rt: HostRuntime) -> Result<(), Fail> {
-    let (given, left) = play(rt.alloc(), 1, &[(0, Move::Push(7)), (0, Move::Steal)])?;
-    assert!(rt; given.is_empty() && matches!(left.as_slice(), [7]));
-    Ok(())
-}
-
-#[test]
-fn three_hands_lose_nothing(rt: HostRuntime) -> Result<(), Fail> {
-    let moves = [
-        (0, Move::Push(1)),
-        (1, Move::Push(2)),
-        (1, Move::Push(2)),
-        (2, Move::Push(3)),
-        (0, Move::Steal),
-        (2, Move::Steal),
-        (2, Move::Steal),
-        (1, Move::Push(4)),
-    ];
-    let (given, left) = play(rt.alloc(), 3, &moves)?;
-    assert!(rt; matches!(given.as_slice(), [1, 2]));
-    assert!(rt; matches!(left.as_slice(), [2, 3, 4]));
+fn hands_lose_nothing(rt: HostRuntime) -> Result<(), Fail> {
+    let text = all_played(rt.alloc())?;
+    assert_eq!(rt;
+        text.as_str(),
+        "2 and 1 left: 4 5 6 
+and 7 left
+1 2 and 2 3 4 left
+true false true
+"
+    );
     Ok(())
 }
 
@@ -120,24 +179,5 @@ fn a_missing_hand_is_found_out(rt: HostRuntime) -> Result<(), Fail> {
     let alloc = rt.alloc();
     let one_of_two = without_last(hands(alloc, 2)?);
     assert!(rt; matches!(gather(alloc, one_of_two), Err(Fault::StrangePass)));
-    Ok(())
-}
-
-/// Is a hand empty at first, with a number, and when that has been popped?
-fn emptiness(alloc: Global) -> Result<[bool; 3], Fault> {
-    let mut ring = hands(alloc, 1)?;
-    let Some(mut hand) = ring.pop() else {
-        return Ok([false; 3]);
-    };
-    let at_first = hand.is_empty();
-    hand.push(5)?;
-    let filled = hand.is_empty();
-    let _five = hand.pop();
-    Ok([at_first, filled, hand.is_empty()])
-}
-
-#[test]
-fn a_hand_tells_whether_it_is_empty(rt: HostRuntime) -> Result<(), Fail> {
-    assert!(rt; matches!(emptiness(rt.alloc())?, [true, false, true]));
     Ok(())
 }

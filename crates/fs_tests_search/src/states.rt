@@ -2,6 +2,7 @@
 
 use crate::places::places_of;
 use crate::states_texts::{ADDED, ASTRAY, BRANCH, LAST, TRUE, TWICE};
+use crate::wrong::add_wrong;
 use fs_judge_final_states::{State, states};
 use fs_kinds::Fault;
 use fs_litmus::read_test;
@@ -32,7 +33,7 @@ fn listed(alloc: Global, text: &str, fences: &str) -> Result<String, Fault> {
 }
 
 /// Tests, fences, and the words of each state with a point behind it.
-const ROWS: [(&str, &str, &str); 18] = [
+const ROWS: &[(&str, &str, &str)] = &[
     // Each load may come before the other hart's store, unless a fence keeps it behind the own one: then one of them
     // comes last.
     (SB, "", " 0 0. 0 1. 1 0. 1 1."),
@@ -61,12 +62,19 @@ const ROWS: [(&str, &str, &str); 18] = [
     (ASTRAY, "", "fault F14 Astray P0:0"),
 ];
 
+/// The tests that have other states than the table says.
+fn wrong_states(alloc: Global, rows: &[(&str, &str, &str)]) -> Result<String, AllocError> {
+    let mut wrong = String::new(alloc);
+    for (text, fences, wanted) in rows {
+        let found = told(alloc, listed(alloc, text, fences))?;
+        add_wrong(text, &found, wanted, &mut wrong)?;
+    }
+    Ok(wrong)
+}
+
 #[test]
 fn states_are_those_of_reasoning(rt: HostRuntime) -> Result<(), Fail> {
-    for (text, fences, wanted) in ROWS {
-        let answer = listed(rt.alloc(), text, fences);
-        let found = told(rt.alloc(), answer)?;
-        assert_eq!(rt; found.as_str(), wanted, "with {fences} in {text}");
-    }
+    let wrong = wrong_states(rt.alloc(), ROWS)?;
+    assert_eq!(rt; wrong.as_str(), "");
     Ok(())
 }
