@@ -2,11 +2,13 @@
 are put by chance, and in which the label that branches go to stands somewhere behind them.
 
 In place, each line by itself is followed, all are, and some sets of them: `test` says `forbidden` of each such text,
-and `audit` has the lines that are left.
+and `audit` has the lines that are left. `--write` prints the file with all followed but at fences that name devices,
+and `-i` leaves it so; all else stays, byte for byte.
 
-With `--anew` the fences are taken out of the text here, cell by cell. What `--write` prints has the fences that are
-due, is judged by `test`, and written once more: then it stays as it is. Where no fence names devices it is audited,
-too: nothing can go, and the cost is what was said. What differs is printed with the test."""
+With `--anew` the fences are taken out of the text here, cell by cell. What `--write` prints of a test that isn't
+forbidden as it is written has the fences that are due, is judged by `test`, and written once more: then it stays as it
+is. Where no fence names devices it is audited, too: nothing can go, and the cost is what was said. What differs is
+printed with the test."""
 import copy
 import itertools
 import random
@@ -15,7 +17,7 @@ import re
 import check_certificate as model
 import solve_reference as reference
 from litmus import FENCES, Maker
-from running import rvfence, written
+from running import rvfence, text_of, written
 from verdicts import verdict_of
 
 LABEL = "OUT:"
@@ -307,7 +309,7 @@ def mended_fences(columns, placed):
 
 
 def check_mended(run, name, files, columns, kind, mended):
-    """Checks what `--write` prints of a test of which this is the verdict."""
+    """Checks what `--write` prints of a test of which this is the verdict, not `forbidden`."""
     said = rvfence("audit", "-q", *files, "--write")
     run.expect(f"{name}: the status of --write", mended.status(kind), said.status)
     if mended.best is None:
@@ -355,6 +357,30 @@ def check_followed(run, name, files, columns, changed, said):
             run.expect(f"{name}: {chosen} audited again", left, left_over(again.out.splitlines()[1:]))
 
 
+def with_fences(columns, changed):
+    """The text in which fences have become what is advised, with blanks behind, but those that name devices."""
+    cells = [[cell for cell in column if cell.bare] for column in columns.cells]
+    fences = {cells[hart][at]: fence_of(kind) if kind else "" for (hart, at), kind in changed.items()}
+
+    def shown(cell):
+        if not cell or cell.stays or cell not in fences:
+            return str(cell)
+        return cell.label + " " * len(cell.label[:1]) + fences[cell].ljust(len(cell.bare))
+
+    rows = [" | ".join(map(shown, row)) + " ;" for row in itertools.zip_longest(*columns.cells, fillvalue="")]
+    return "\n".join([*columns.above, *rows, columns.condition, ""])
+
+
+def check_written(run, name, files, columns, changed):
+    """Checks what `--write` prints of a test that is forbidden as it is written, and what `-i` leaves."""
+    text = with_fences(columns, changed)
+    said = rvfence("audit", "-q", *files, "--write")
+    run.expect(f"{name}: written in place", (text, int(text != columns.text())), (said.out, said.status))
+    file = written(files[0].replace("test.litmus", "mended.litmus"), columns.text())
+    said = rvfence("audit", "-q", file, files[1], "-i")
+    run.expect(f"{name}: mended in place", (text, "", 0), (text_of(file), said.out, said.status))
+
+
 def check_in_place(run, name, files, columns, kind, prices, wanted):
     """Compares what is printed in place; `wanted` is what is to be printed with `--anew`."""
     text = columns.text() + prices.decode()
@@ -371,6 +397,7 @@ def check_in_place(run, name, files, columns, kind, prices, wanted):
         compare(run, f"{name} in place", said, files, text)
         run.kinds.update("in place: " + re.sub("^[rwtso]+,?[rw]* ", "K ", line[28:]) for line in said[0][1:])
         check_followed(run, name, files, columns, changed, said[0][1:])
+        check_written(run, name, files, columns, changed)
 
 
 def check(run):
@@ -383,5 +410,6 @@ def check(run):
         if kind is not None:
             run.kinds[kind] += 1
             run.kinds.update(re.sub("^[rwtso]+,?[rw]* ", "K ", line[28:]) for line in wanted[0][1:])
-            check_mended(run, name, files, columns, kind, mended)
+            if kind != "forbidden":
+                check_mended(run, name, files, columns, kind, mended)
             check_in_place(run, name, files, columns, kind, prices, wanted)

@@ -124,7 +124,7 @@ padded() { cat "$2" && head -c $(($1 - $(wc -c <"$2"))) /dev/zero | tr '\0' ' ';
 
 # The commands, and the options of one, as help has them.
 commands() { rvfence --help | sed -n '/^Commands:/,/^$/s/^  \([a-z]*\) .*/\1/p'; }
-options_of() { rvfence "$1" --help | sed '1,/^Options:/d' | grep -oP '^ +(-\w, )?\K--[a-z]+' | sort -u; }
+options_of() { rvfence "$1" --help | sed '1,/^Options:/d' | grep -oP '^ +(-\w, )?\K--[a-z-]+' | sort -u; }
 
 # What bash completes behind these words, of which the last is begun, a line each.
 completed() {

@@ -1,5 +1,5 @@
 -- What is told below answers.
-use Rattle.std.proofs.Common.{◌≡◌, ◌∙◌, ℕ, zero, suc, ◌+◌, ◌<◌, Bool, true, false, List, [], ◌∷◌, ◌++◌, append_assoc, arith, ap, length, refl, sym, subst, string_bytes}
+use Rattle.std.proofs.Common.{◌≡◌, ◌∙◌, ℕ, zero, suc, ◌+◌, ◌<◌, Bool, Option, None, Some, List, [], ◌∷◌, ◌++◌, append_assoc, arith, ap, length, refl, sym, subst, string_bytes}
 use Rattle.std.specs.List.{AllZip, slice_index_or}
 use Rattle.std.proofs.lemmas.List.{append-nil}
 use Rattle.fs_app_io.specs.declared.status.Output.{Output}
@@ -8,34 +8,36 @@ use Rattle.fs_app_solve.specs.Solve.{IsCertified}
 use Rattle.fs_app_why.specs.Why.{IsCertifiedWhy}
 use Rattle.fs_app.specs.Answers.{IsSolvedAndTold, IsSolvedIn}
 use Rattle.fs_app_test.specs.declared.said.Line.{Line}
-use Rattle.fs_app.specs.Telling.{AreToldFrom, IsSolveWhy, IsTestTold, IsTold}
+use Rattle.fs_app_why_kinds.specs.declared.told.Telling.{Telling}
+use Rattle.fs_app.specs.Telling.{AreToldFrom, IsSolveWhy, IsTestTold, IsToldBy}
 
 -- where it isn't asked for nothing is told
-pub untold : (why : Bool) (P : List ℕ → Type 0) → why ≡ false → IsTold why P []
-untold why P e = subst (λ b. IsTold b P []) (sym e) refl
+pub untold : (asked : Option Telling) (P : Telling → List ℕ → Type 0) → asked ≡ None → IsToldBy asked P []
+untold asked P e = subst (λ it. IsToldBy it P []) (sym e) refl
 
 -- what is told of this is told of that
-retold : (why : Bool) (P Q : List ℕ → Type 0) (text : List ℕ) → ((text : List ℕ) → P text → Q text) → IsTold why P text → IsTold why Q text
-retold true P Q text f is = f text is
-retold false P Q text f is = is
+retold : (asked : Option Telling) (P Q : Telling → List ℕ → Type 0) (text : List ℕ)
+    → ((telling : Telling) (text : List ℕ) → P telling text → Q telling text) → IsToldBy asked P text → IsToldBy asked Q text
+retold (Some telling) P Q text f is = f telling text is
+retold None P Q text f is = is
 
 -- ---- of tests
 
-pub one_more : (tests : List (List ℕ)) (k n : ℕ) (lines : List Line) (line : Line) (text told whole : List ℕ) → k + length lines ≡ n
-    → AreToldFrom k lines tests text → IsTestTold line (slice_index_or tests n []) told → whole ≡ text ++ told
-    → AreToldFrom k (lines ++ line ∷ []) tests whole
-one_more tests k n [] line text told whole at none is e = (
+pub one_more : (telling : Telling) (tests : List (List ℕ)) (k n : ℕ) (lines : List Line) (line : Line) (text told whole : List ℕ)
+    → k + length lines ≡ n → AreToldFrom telling k lines tests text → IsTestTold telling line (slice_index_or tests n []) told
+    → whole ≡ text ++ told → AreToldFrom telling k (lines ++ line ∷ []) tests whole
+one_more telling tests k n [] line text told whole at none is e = (
   told,
   [],
-  subst (λ (m : ℕ). IsTestTold line (slice_index_or tests m []) told) (sym (let here : k ≡ n = omega (arith, at) in here)) is,
+  subst (λ (m : ℕ). IsTestTold telling line (slice_index_or tests m []) told) (sym (let here : k ≡ n = omega (arith, at) in here)) is,
   refl,
   e ∙ ap (λ before. before ++ told) none ∙ sym (append-nil told),
 )
-one_more tests k n (x ∷ lines) line text told whole at (first, others, is_first, are, is_text) is e = (
+one_more telling tests k n (x ∷ lines) line text told whole at (first, others, is_first, are, is_text) is e = (
   first,
   others ++ told,
   is_first,
-  one_more tests (k + 1) n lines line others told (others ++ told) (omega (arith, at)) are is refl,
+  one_more telling tests (k + 1) n lines line others told (others ++ told) (omega (arith, at)) are is refl,
   rw (e, is_text) (append_assoc first others told),
 )
 
@@ -49,30 +51,31 @@ at_place R (x ∷ xs) (y ∷ ys) (suc k) d e each low = at_place R xs ys k d e e
 
 -- ---- of `solve`
 
-module _ (is_json why : Bool) (test prices lines : List ℕ) where
-  pub solved_alone : (output : Output) → why ≡ false → IsSolvedIn is_json test prices lines (string_bytes output.text) output.status
-      → IsSolvedAndTold is_json why test prices output
+module _ (is_json : Bool) (asked : Option Telling) (test prices lines : List ℕ) where
+  pub solved_alone : (output : Output) → asked ≡ None → IsSolvedIn is_json test prices lines (string_bytes output.text) output.status
+      → IsSolvedAndTold is_json asked test prices output
   solved_alone output unasked answer = record {
     lines = lines;
     shown = string_bytes output.text;
     below = [];
     answer = answer;
-    told = untold why (IsSolveWhy test prices lines output.status) unasked;
+    told = untold asked (λ telling. IsSolveWhy telling test prices lines output.status) unasked;
     text = sym (append-nil (string_bytes output.text));
   }
 
   pub solved_told : (output told : Output) (below certificate : List ℕ)
       → IsSolvedIn is_json test prices lines (string_bytes output.text) output.status
-      → IsCertified test prices lines output.status certificate → IsTold why (IsCertifiedWhy test certificate) below
+      → IsCertified test prices lines output.status certificate → IsToldBy asked (λ telling. IsCertifiedWhy telling test certificate) below
       → string_bytes told.text ≡ string_bytes output.text ++ below → told.status ≡ output.status
-      → IsSolvedAndTold is_json why test prices told
+      → IsSolvedAndTold is_json asked test prices told
   solved_told output told below certificate answer certified is text status = record {
     lines = lines;
     shown = string_bytes output.text;
     below = below;
     answer = subst (IsSolvedIn is_json test prices lines (string_bytes output.text)) (sym status) answer;
-    told = retold why (IsCertifiedWhy test certificate) (IsSolveWhy test prices lines told.status) below
-        (λ text of_certificate. record {
+    told = retold asked (λ telling. IsCertifiedWhy telling test certificate)
+        (λ telling. IsSolveWhy telling test prices lines told.status) below
+        (λ telling text of_certificate. record {
           certificate = certificate;
           certified = subst (λ (s : Status). IsCertified test prices lines s certificate) (sym status) certified;
           told = of_certificate;

@@ -1,5 +1,5 @@
 -- What a command answers, of the files that it has read. What a file gives when it is read no definition says.
-use Rattle.std.specs.Prelude.{◌≡◌, ℕ, Bool, true, false, ◌&&◌, List, [], ◌∷◌, ◌++◌, Option, IfSome, IsSome, is_some, map, option_map, string_bytes, if◌then◌else◌}
+use Rattle.std.specs.Prelude.{◌≡◌, ℕ, Bool, true, false, List, [], ◌∷◌, ◌++◌, Option, None, IfSome, IsSome, is_some, map, option_map, string_bytes, if◌then◌else◌}
 use Rattle.fs_app_io.specs.declared.source.Source.{Source}
 use Rattle.fs_app_io.specs.declared.status.Output.{Output}
 use Rattle.fs_app_io.specs.declared.status.Status.{Status}
@@ -10,7 +10,7 @@ use Rattle.fs_report.specs.Objects.{AreOneAnswer}
 use Rattle.fs_app_solve.specs.Solve.{IsSolved}
 use Rattle.fs_app_sites.specs.Solved.{IsSolved as IsSitesSolved}
 use Rattle.fs_app_sites.specs.declared.content.File.{File}
-use Rattle.fs_app_audit.specs.Audit.{IsAnew, IsAudited, IsMended, IsFirstAnewFault, IsFirstAuditFault, IsFirstMendedFault}
+use Rattle.fs_app_audit.specs.Audit.{IsAnew, IsAudited, IsWritten, IsFirstAnewFault, IsFirstAuditFault, IsFirstWrittenFault}
 use Rattle.fs_app_audit.specs.Blocks.{AreBlocks, are_named, blocks_status, blocks_text}
 use Rattle.fs_app_audit.specs.declared.blocks.Block.{Block}
 use Rattle.fs_kinds.specs.declared.fault.Fault.{Fault}
@@ -31,7 +31,8 @@ use Rattle.fs_app_command_line.specs.declared.command.Audit.{Audit}
 use Rattle.fs_app_command_line.specs.declared.command.Check.{Check}
 use Rattle.fs_app_files.specs.declared.papers.Papers.{Papers}
 use Rattle.fs_app_files.specs.Judging.{AreJudged}
-use Rattle.fs_app.specs.Telling.{AreTold, IsSolveWhy, IsTold, is_yes}
+use Rattle.fs_app_why_kinds.specs.declared.told.Telling.{Telling}
+use Rattle.fs_app.specs.Telling.{AreTold, IsSolveWhy, IsTold, IsToldBy, is_yes, telling_of}
 
 -- the bytes of the prices that were read, where `place` is to read some
 abbrev pub offered : Place → Papers → Option (List ℕ)
@@ -65,18 +66,18 @@ pub record IsSolvedIn (is_json : Bool) (test prices lines text : List ℕ) (stat
   pub shown : text ≡ in_form is_json lines object
 
 -- an answer to the test and the prices, and what is told below it
-pub record IsSolvedAndTold (is_json why : Bool) (test prices : List ℕ) (output : Output) : Type 0 where
+pub record IsSolvedAndTold (is_json : Bool) (asked : Option Telling) (test prices : List ℕ) (output : Output) : Type 0 where
   pub lines : List ℕ
   pub shown : List ℕ
   pub below : List ℕ
   pub answer : IsSolvedIn is_json test prices lines shown output.status
-  pub told : IsTold why (IsSolveWhy test prices lines output.status) below
+  pub told : IsToldBy asked (λ telling. IsSolveWhy telling test prices lines output.status) below
   pub text : string_bytes output.text ≡ shown ++ below
 
 pub record AnswersSolve (solve : Solve) (papers : Papers) (output : Output) : Type 0 where
   pub test_name : papers.test.name.now ≡ solve.test.now
   pub prices_name : papers.prices.name.now ≡ solve.prices.now
-  pub answer : IsSolvedAndTold solve.json solve.why papers.test.bytes.items papers.prices.bytes.items output
+  pub answer : IsSolvedAndTold solve.json (telling_of solve.why) papers.test.bytes.items papers.prices.bytes.items output
 
 -- the answer to some files and the prices that were read; or no answer, since a file has a fault
 pub data AnswersSites (sites : Sites) (papers : Papers) (output : Output) : Type 0 where
@@ -87,14 +88,14 @@ pub data AnswersSites (sites : Sites) (papers : Papers) (output : Output) : Type
 
 -- with `--write` the mended test, with `--anew` what is found anew
 abbrev pub IsAuditText : (is_mended is_anew : Bool) (test prices text : List ℕ) (status : Status) → Type 0
-IsAuditText true is_anew test prices text status = IsMended test prices text status
+IsAuditText true is_anew test prices text status = IsWritten test prices text status
 IsAuditText false true test prices text status = IsAnew test prices text status
 IsAuditText false false test prices text status =
     (said : Kind) × (saved : ℕ) × IsAudited test prices text status said saved
 
 -- and its faults
 abbrev pub IsAuditFault : (is_mended is_anew : Bool) (test prices : List ℕ) (limit : ℕ) → Fault → Type 0
-IsAuditFault true is_anew test prices limit fault = IsFirstMendedFault test prices limit fault
+IsAuditFault true is_anew test prices limit fault = IsFirstWrittenFault test prices limit fault
 IsAuditFault false true test prices limit fault = IsFirstAnewFault test prices limit fault
 IsAuditFault false false test prices limit fault = IsFirstAuditFault test prices limit fault
 
@@ -114,13 +115,14 @@ pub record AnswersBlocks (audit : Audit) (files : List Source) (papers : Papers)
   pub text : string_bytes output.text ≡ blocks_text audit.anew blocks
   pub ends : output.status ≡ blocks_status blocks
 
--- Of the only file that the words name, or of several; nothing where a test is to be written and there are several. Which
--- files folders and lists stand for no definition says.
+-- Of the only file that the words name, or of several; nothing where a file is mended, or where a test is to be written
+-- and there are several. Which files folders and lists stand for no definition says.
 pub data AnswersAudit (audit : Audit) (papers : Papers) (output : Output) : Type 0 where
   alone : (name : List ℕ) → map string_bytes audit.files.items ≡ name ∷ [] → AnswersOneAudit audit name papers output
       → AnswersAudit audit papers output
   several : {files : List Source} → audit.write ≡ false → AnswersBlocks audit files papers output
       → AnswersAudit audit papers output
+  mended : audit.in_place ≡ true → string_bytes output.text ≡ [] → AnswersAudit audit papers output
   too_many : audit.write ≡ true → string_bytes output.text ≡ [] → output.status ≡ Failure
       → AnswersAudit audit papers output
 
@@ -133,7 +135,8 @@ pub record AnswersCheck (check : Check) (papers : Papers) (output : Output) : Ty
   pub answer : IsChecked papers.test.bytes.items papers.prices.bytes.items papers.evidence.bytes.items lines output.status
   pub alike : AreOneVerdict lines object
   pub below : List ℕ
-  pub told : IsTold (check.why && is_yes output.status) (IsCertifiedWhy papers.test.bytes.items papers.evidence.bytes.items) below
+  pub told : IsToldBy (if is_yes output.status then telling_of check.why else None)
+      (λ telling. IsCertifiedWhy telling papers.test.bytes.items papers.evidence.bytes.items) below
   pub text : string_bytes output.text ≡ in_form check.json lines object ++ below
 
 -- The text, but for what is told below it, and the status are those of the same lines. Each says what is true of some
@@ -143,7 +146,7 @@ pub record AnswersLines (test : Test) (output : Output) : Type 0 where
   pub tests : List (List ℕ)
   pub judged : AreJudged lines tests
   pub below : List ℕ
-  pub told : IsTold test.why (AreTold lines tests) below
+  pub told : IsToldBy (telling_of test.why) (λ telling. AreTold telling lines tests) below
   pub text : string_bytes output.text
       ≡ in_form test.json (report_text (is_some test.expect) lines) (json_text (is_some test.expect) lines) ++ below
   pub ends : output.status ≡ report_status (is_some test.expect) lines

@@ -5,10 +5,11 @@ ghost use Rattle.fs_app.specs.Answers.{AnswersAudit, AnswersBlocks, AnswersOneAu
 
 use crate::failure::Failure;
 use crate::program::{Voice, refused, report};
-use fs_app_audit::{Found, audit_file, blocks_of, blocks_output, run_anew, run_audit, run_mended};
+use fs_app_audit::{Found, audit_file, blocks_of, blocks_output, run_anew, run_audit, run_written};
+use fs_app_audit_text::keeps;
 use fs_app_command_line::{Audit, MOST_NODES};
 use fs_app_files::{Papers, message_of_file};
-use fs_app_io::{Missing, Output, Source, sources, tell};
+use fs_app_io::{Missing, Output, Source, Status, sources, tell, write_whole};
 use fs_kinds::{Fault, read_prices};
 use std::alloc::{AllocError, Global};
 use std::rt::Files;
@@ -42,8 +43,23 @@ struct Batch<'a> {
     messages: Vec<String>,
 }
 
-/// What `audit` answers of its files. Where one word names one file its fault ends the run.
+/// What `audit` answers of its files, or nothing where a file is mended.
 pub(crate) fn answer_audit<'a, R: Files + Input + Eprint + AllocGlobal + Threads + Sync>(
+    rt: &R,
+    audit: &'a Audit<'a>,
+    voice: Voice,
+    papers: &mut Papers<'a>,
+) -> Result<Output, Fault>
+    ensures { IfOk result (AnswersAudit audit.now papers.new) }
+{
+    if audit.in_place {
+        return answer_in_place(rt, audit, papers);
+    }
+    answer_said(rt, audit, voice, papers)
+}
+
+/// What `audit` says of its files. Where one word names one file its fault ends the run.
+fn answer_said<'a, R: Files + Input + Eprint + AllocGlobal + Threads + Sync>(
     rt: &R,
     audit: &'a Audit<'a>,
     voice: Voice,
@@ -107,6 +123,66 @@ fn answer_alone<'a, R: Files + Input + AllocGlobal>(
     audited(rt.alloc(), papers, audit.write, audit.anew, limit)
 }
 
+/// Mends the only file; where there are several, none.
+fn answer_in_place<'a, R: Files + Input + Eprint + AllocGlobal>(
+    rt: &R,
+    audit: &'a Audit<'a>,
+    papers: &mut Papers<'a>,
+) -> Result<Output, Fault>
+    ensures { IfOk result (λ output. string_bytes output.text ≡ []) }
+{
+    let files = sources(rt, &audit.files)?;
+    if let Some(word) = only(audit.files.as_slice()) {
+        if is_alone(word, &files) {
+            return mend_in_place(rt, audit, word, papers);
+        }
+    }
+    report(rt, &Failure::OneTest);
+    Ok(refused(rt.alloc()))
+}
+
+/// Writes the advised FENCEs into the file, where nothing else changes, and prints nothing. Else the file stays as it is,
+/// with status 1, or 4 where the outcome is vacuous.
+fn mend_in_place<'a, R: Files + Input + Eprint + AllocGlobal>(
+    rt: &R,
+    audit: &'a Audit<'a>,
+    word: &'a str,
+    papers: &mut Papers<'a>,
+) -> Result<Output, Fault>
+    ensures { IfOk result (λ output. string_bytes output.text ≡ []) }
+{
+    papers.read_test(rt, word)?;
+    papers.read_prices(rt, audit.prices)?;
+    let (test, prices) = (&papers.test.bytes, &papers.prices.bytes);
+    let written = run_written(rt.alloc(), test, prices, limit_of(audit))?;
+    if !keeps(test, written.text.as_bytes()) {
+        report(rt, &Failure::NotMended);
+        return Ok(silent(rt.alloc(), kept_status(written.status)));
+    }
+    if written.status == Status::Denied {
+        write_whole(rt, word, written.text.as_bytes())?;
+    }
+    Ok(silent(rt.alloc(), Status::Success))
+}
+
+/// The status where a file stays as it is, of which `--write` would end with this one.
+fn kept_status(status: Status) -> Status {
+    match status {
+        Status::Vacuous => status,
+        _ => Status::Denied,
+    }
+}
+
+/// No output, with this status.
+fn silent(alloc: Global, status: Status) -> Output
+    ensures { string_bytes result.text ≡ [] }
+{
+    Output {
+        text: String::new(alloc),
+        status,
+    }
+}
+
 /// What is said of the FENCEs of the test that was read, in place or anew, or that test mended.
 fn audited(
     alloc: Global,
@@ -124,7 +200,7 @@ fn audited(
 {
     let (test, prices) = (&papers.test.bytes, &papers.prices.bytes);
     if is_mended {
-        run_mended(alloc, test, prices, limit)
+        run_written(alloc, test, prices, limit)
     } else if is_anew {
         Ok(run_anew(alloc, test, prices, limit)?.output)
     } else {

@@ -26,9 +26,15 @@ pub(crate) enum Failure {
     /// A list of what tests are expected to be isn't of its form.
     #[error("{0}\n")]
     BadList(ListError),
-    /// `audit --write` was given several files.
-    #[error("error: `--write` takes one FILE\n")]
+    /// `audit --write` was given several files, or `audit -i` was.
+    #[error("error: `--write` and `-i` take one FILE\n")]
     OneTest,
+    /// `audit -i` leaves the file as it is.
+    #[error("note: the file stays as it is, since other changes than to its FENCEs would be needed\n")]
+    NotMended,
+    /// `--why` was given a word that is no place.
+    #[error("error: `--why` takes `all`, or a fence's place as `P1:6`\n")]
+    NoPlace,
     /// The request has no answer, and a message explains the fault.
     #[error("{0}\n{1}")]
     Told(Fault, String),
@@ -42,7 +48,9 @@ impl Failure {
             | Failure::NoRequest(_)
             | Failure::BadLog(_)
             | Failure::BadList(_)
-            | Failure::OneTest => Status::Failure,
+            | Failure::OneTest
+            | Failure::NotMended
+            | Failure::NoPlace => Status::Failure,
             Failure::NoAnswer(fault) | Failure::Told(fault, _) => Status::of_fault(*fault),
         }
     }

@@ -9,7 +9,7 @@ mod sites;
 mod states;
 mod telling;
 
-pub use fs_app_audit::{Audited, run_anew, run_audit, run_mended};
+pub use fs_app_audit::{Audited, run_anew, run_audit, run_written};
 pub use fs_app_check::{Checked, run_check};
 pub use fs_app_files::{Kinds, ListError, Row, kind_by, kinds_of, read_rows, test_name};
 pub use fs_app_io::{Output, Status, read_bytes, write_text};

@@ -1,6 +1,7 @@
 //! A run of the program: from the words of its command line to what it prints and its exit status.
 
-ghost use Rattle.std.specs.Prelude.{◌≡◌, ℕ, List, [], IfOk, IfErr, IsSome, false, is_some, map, string_bytes};
+ghost use Rattle.std.specs.Prelude.{◌≡◌, ℕ, List, [], IfOk, IfErr, IsSome, None, false, if◌then◌else◌, is_some};
+ghost use Rattle.std.specs.Prelude.{map, string_bytes};
 ghost use Rattle.std.specs.Arc.{arc_value};
 ghost use Rattle.std.specs.Option.{option_copied};
 ghost use Rattle.fs_app_io.specs.declared.status.Status.TheVariants.{Success, Denied, Failure as Failed};
@@ -13,17 +14,18 @@ ghost use Rattle.fs_app_test.specs.Report.{report_text, json_text};
 ghost use Rattle.fs_app_test.specs.Status.{report_status};
 ghost use Rattle.fs_app.specs.Answers.{IsSolvedAndTold, IsSolvedIn, offered, in_form, Answers, AnswersTest, AnswersPlace};
 ghost use Rattle.fs_app.specs.Answers.{AnswersLines, AnswersOrder, AnswersSolve, AnswersCheck};
+ghost use Rattle.fs_app.specs.Telling.{is_yes, telling_of};
 
 use crate::audits::answer_audit;
 use crate::failure::Failure;
 use crate::progress::Progress;
 use crate::sites::answer_sites;
 use crate::states::{answer_log, answer_states};
-use crate::telling::{answer_why, is_yes, order_why, solve_why, tests_why, with_below};
+use crate::telling::{answer_why, is_yes, order_why, solve_why, telling_of, tests_why, with_below};
 use clap::error::ErrorKind;
 use fs_app_check::{Checked, run_check};
 use fs_app_command_line::{
-    Check, Expectations, MOST_NODES, MOST_WORKERS, Order, Place, Request, Solve, Task, Test,
+    Check, Expectations, MOST_NODES, MOST_WORKERS, Order, Place, Request, Solve, Task, Test, Why,
     completion_script, read_request,
 };
 use fs_app_error_messages::shown_name;
@@ -36,6 +38,7 @@ use fs_app_io::{
 use fs_app_place_order::{run_order, run_place};
 use fs_app_solve::{Found, run_solve, run_solve_alone};
 use fs_app_test::{Line, test_objects, test_report, vacuous_note};
+use fs_app_why_kinds::Telling;
 use fs_kinds::Fault;
 use std::alloc::Global;
 use std::process::ExitCode;
@@ -112,6 +115,9 @@ fn status_of_run<
         Ok(request) => request,
         Err(error) => return explain(rt, shown_error(rt, error, words.as_slice())?),
     };
+    if request.task.asks_unclearly() {
+        return Err(Failure::NoPlace);
+    }
     let voice = Voice::of(&request, is_terminal);
     let mut papers = Papers::new(rt.alloc());
     match answer(rt, &request.task, voice, &mut papers) {
@@ -329,7 +335,7 @@ fn judged_tests<R: Files + Input + Eprint + AllocGlobal + Threads + Sync>(
     let wants = Wants {
         messages: voice.explains,
         notes: test.json,
-        tests: test.why,
+        tests: telling_of(test.why).is_some(),
     };
     let files = sources(rt, &test.files)?;
     let judged = judge_files(rt, &files, test.jobs, wants, expecting)?;
@@ -368,7 +374,7 @@ fn lines_output(alloc: Global, test: &Test<'_>, judged: &Judged) -> Result<Outpu
     ensures { IfOk result (AnswersLines test.now) }
 {
     let said = said_output(alloc, test, &judged.lines)?;
-    let below = tests_why(alloc, test.why, &judged.lines, &judged.tests)?;
+    let below = tests_why(alloc, telling_of(test.why), &judged.lines, &judged.tests)?;
     let output = with_below(said, &below)?;
     Ok(output)
 }
@@ -484,9 +490,9 @@ fn answer_solve<'a, R: Files + Input + Eprint + AllocGlobal + Clock + Threads + 
 
 /// Is a certificate of the answer asked for, or what one tells?
 fn needs_certificate(solve: &Solve<'_>) -> bool
-    ensures { result ≡ false → solve.now.why ≡ false }
+    ensures { result ≡ false → telling_of solve.now.why ≡ None }
 {
-    solve.why || solve.certificate.is_some()
+    telling_of(solve.why).is_some() || solve.certificate.is_some()
 }
 
 /// The output, with what is told below it, once the certificate is written: both where they are asked for.
@@ -502,7 +508,7 @@ fn certified<R: Files + AllocGlobal>(
     requires answer { IsSolvedIn solve.now.json papers.now.test.bytes.items papers.now.prices.bytes.items
         (lines_of found.now.solved.answer) (string_bytes output.text) output.status }
     requires prints { Prints found.now.solved.answer (lines_of found.now.solved.answer) output.status }
-    ensures { IfOk result (IsSolvedAndTold solve.now.json solve.now.why papers.now.test.bytes.items
+    ensures { IfOk result (IsSolvedAndTold solve.now.json (telling_of solve.now.why) papers.now.test.bytes.items
         papers.now.prices.bytes.items) }
 {
     if !needs_certificate(solve) {
@@ -514,7 +520,7 @@ fn certified<R: Files + AllocGlobal>(
     }
     solve_why(
         rt.alloc(),
-        solve.why,
+        telling_of(solve.why),
         output,
         &papers.test.bytes,
         certificate.as_bytes(),
@@ -595,16 +601,26 @@ fn answer_check<'a, R: Files + Input + AllocGlobal>(
     papers.read_prices(rt, check.prices)?;
     papers.read_evidence(rt, check.certificate, CERTIFICATE_LIMIT)?;
     let checked = checked(rt.alloc(), papers)?;
-    let tells = check.why && is_yes(checked.output.status);
     let below = answer_why(
         rt.alloc(),
-        tells,
+        telling_by(checked.output.status, check.why),
         &papers.test.bytes,
         &papers.evidence.bytes,
     )?;
     let shown = in_form(checked.output, checked.object, check.json);
     let output = with_below(shown, &below)?;
     Ok(output)
+}
+
+/// Which contradictions are to be told below a verdict on a certificate: none below a no.
+fn telling_by(status: Status, why: Why<'_>) -> Option<Telling>
+    ensures { result ≡ if is_yes status then telling_of why.entry else None }
+{
+    if is_yes(status) {
+        telling_of(why)
+    } else {
+        None
+    }
 }
 
 /// The verdict on the certificate that was read.

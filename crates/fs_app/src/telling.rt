@@ -8,14 +8,16 @@ ghost use Rattle.fs_app_test.specs.Report.{shown_name};
 ghost use Rattle.fs_app_test.specs.SaidVerdicts.{witness_in};
 ghost use Rattle.fs_app_why.specs.Why.{IsCertifiedWhy, IsOrderWhy};
 ghost use Rattle.fs_app.specs.Answers.{IsSolvedAndTold, IsSolvedIn};
-ghost use Rattle.fs_app.specs.Telling.{AreTold, IsBlock, IsForbiddenBlock, IsTestTold, IsTold, is_allowed};
-ghost use Rattle.fs_app.specs.Telling.{is_forbidden, is_yes, named};
+ghost use Rattle.fs_app.specs.Telling.{AreTold, IsBlock, IsForbiddenBlock, IsTestTold, IsTold, IsToldBy};
+ghost use Rattle.fs_app.specs.Telling.{is_allowed, is_forbidden, is_yes, named, telling_of};
 
+use fs_app_command_line::Why;
 use fs_app_error_messages::shown_name;
 use fs_app_files::Papers;
 use fs_app_io::{Output, Status};
 use fs_app_test::{Kind, Line};
 use fs_app_why::{why_allowed, why_certified, why_forbidden, why_order};
+use fs_app_why_kinds::Telling;
 use fs_kinds::Fault;
 use std::alloc::{AllocError, Global};
 
@@ -28,6 +30,18 @@ pub(crate) fn with_below(output: Output, below: &String) -> Result<Output, Fault
     let Output { mut text, status } = output;
     text.push_str(below.as_str())?;
     Ok(Output { text, status })
+}
+
+/// Which contradictions are to be told, where any are.
+pub(crate) fn telling_of(why: Why<'_>) -> Option<Telling>
+    ensures { result ≡ telling_of why.entry }
+{
+    match why {
+        Why::Untold | Why::Unclear(_) => None,
+        Why::Few => Some(Telling::Few),
+        Why::All => Some(Telling::All),
+        Why::Fence { hart, at } => Some(Telling::One { hart, at }),
+    }
 }
 
 /// Is the answer yes?
@@ -59,22 +73,23 @@ pub(crate) fn order_why(alloc: Global, why: bool, papers: &Papers<'_>) -> Result
 /// What is told below an answer with this certificate.
 pub(crate) fn answer_why(
     alloc: Global,
-    why: bool,
+    asked: Option<Telling>,
     test: &[u8],
     certificate: &[u8],
 ) -> Result<String, Fault>
-    ensures { IfOk result (λ text. IsTold why (IsCertifiedWhy test.now certificate.now) (string_bytes text)) }
+    ensures { IfOk result (λ text.
+        IsToldBy asked (λ telling. IsCertifiedWhy telling test.now certificate.now) (string_bytes text)) }
 {
-    if !why {
-        return Ok(String::new(alloc));
+    match asked {
+        Some(telling) => why_certified(alloc, telling, test, certificate),
+        None => Ok(String::new(alloc)),
     }
-    why_certified(alloc, test, certificate)
 }
 
 /// The output of `solve`, with what is told below it by this certificate of its answer.
 pub(crate) fn solve_why(
     alloc: Global,
-    why: bool,
+    asked: Option<Telling>,
     output: Output,
     test: &[u8],
     certificate: &[u8],
@@ -82,9 +97,9 @@ pub(crate) fn solve_why(
     ensures { (is_json : Bool) (prices lines : List ℕ)
         → IsSolvedIn is_json test.now prices lines (string_bytes output.text) output.status
         → IsCertified test.now prices lines output.status certificate.now
-        → IfOk result (IsSolvedAndTold is_json why test.now prices) }
+        → IfOk result (IsSolvedAndTold is_json asked test.now prices) }
 {
-    let below = answer_why(alloc, why, test, certificate)?;
+    let below = answer_why(alloc, asked, test, certificate)?;
     let told = with_below(output, &below)?;
     Ok(told)
 }
@@ -155,29 +170,41 @@ fn push_some(alloc: Global, line: &Line, told: &str, text: &mut String) -> Resul
 }
 
 /// Appends what is told of a test that forbids its outcome: below its name why that is so.
-fn push_forbidden(alloc: Global, line: &Line, test: &[u8], text: &mut String) -> Result<(), Fault>
+fn push_forbidden(
+    alloc: Global,
+    telling: Telling,
+    line: &Line,
+    test: &[u8],
+    text: &mut String,
+) -> Result<(), Fault>
     requires judged { IsJudged line.now test.now }
     requires forbidden { is_forbidden line.now.said.kind ≡ true }
-    ensures { OnOk result ((told : List ℕ) × IsForbiddenBlock (shown_name line.now) test.now told
+    ensures { OnOk result ((told : List ℕ) × IsForbiddenBlock telling (shown_name line.now) test.now told
         × (string_bytes text.new ≡ string_bytes text.old ++ told)) }
 {
-    match why_forbidden(alloc, test)? {
+    match why_forbidden(alloc, telling, test)? {
         Some(told) => Ok(push_some(alloc, line, told.as_str(), text)?),
         None => unreachable!(),
     }
 }
 
 /// Appends what is told of the test that has this line: nothing where its outcome is neither allowed nor forbidden.
-fn push_told(alloc: Global, line: &Line, test: &[u8], text: &mut String) -> Result<(), Fault>
+fn push_told(
+    alloc: Global,
+    telling: Telling,
+    line: &Line,
+    test: &[u8],
+    text: &mut String,
+) -> Result<(), Fault>
     requires { IsJudged line.now test.now }
-    ensures { OnOk result ((told : List ℕ) × IsTestTold line.now test.now told
+    ensures { OnOk result ((told : List ℕ) × IsTestTold telling line.now test.now told
         × (string_bytes text.new ≡ string_bytes text.old ++ told)) }
 {
     if is_allowed(line.said.kind) {
         return push_shown(alloc, line, test, text);
     }
     if is_forbidden(line.said.kind) {
-        return push_forbidden(alloc, line, test, text);
+        return push_forbidden(alloc, telling, line, test, text);
     }
     Ok(())
 }
@@ -194,13 +221,19 @@ fn test_at(tests: &[Vec<u8>], number: usize) -> &[u8]
 }
 
 /// What is told of the tests that have these lines.
-fn all_told(alloc: Global, lines: &[Line], tests: &[Vec<u8>]) -> Result<String, Fault>
+fn all_told(
+    alloc: Global,
+    telling: Telling,
+    lines: &[Line],
+    tests: &[Vec<u8>],
+) -> Result<String, Fault>
     requires { AreJudged lines.now (map (λ test. test.items) tests.now) }
-    ensures { IfOk result (λ text. AreTold lines.now (map (λ test. test.items) tests.now) (string_bytes text)) }
+    ensures { IfOk result (λ text.
+        AreTold telling lines.now (map (λ test. test.items) tests.now) (string_bytes text)) }
 {
     let mut text = String::new(alloc);
     for (number, line) in lines.iter().enumerate() {
-        push_told(alloc, line, test_at(tests, number), &mut text)?;
+        push_told(alloc, telling, line, test_at(tests, number), &mut text)?;
     }
     Ok(text)
 }
@@ -208,16 +241,16 @@ fn all_told(alloc: Global, lines: &[Line], tests: &[Vec<u8>]) -> Result<String, 
 /// What is told below the lines of these tests.
 pub(crate) fn tests_why(
     alloc: Global,
-    why: bool,
+    asked: Option<Telling>,
     lines: &[Line],
     tests: &[Vec<u8>],
 ) -> Result<String, Fault>
     requires { AreJudged lines.now (map (λ test. test.items) tests.now) }
-    ensures { IfOk result (λ text.
-        IsTold why (AreTold lines.now (map (λ test. test.items) tests.now)) (string_bytes text)) }
+    ensures { IfOk result (λ text. IsToldBy asked
+        (λ telling. AreTold telling lines.now (map (λ test. test.items) tests.now)) (string_bytes text)) }
 {
-    if !why {
-        return Ok(String::new(alloc));
+    match asked {
+        Some(telling) => all_told(alloc, telling, lines, tests),
+        None => Ok(String::new(alloc)),
     }
-    all_told(alloc, lines, tests)
 }

@@ -15,9 +15,9 @@ use Rattle.fs_app_place_order.proofs.Faults.{is_memory}
 use Rattle.fs_app_test.specs.declared.said.Kind.{Kind}
 use Rattle.fs_app_test.specs.declared.said.Kind.TheVariants.{Forbidden, Vacuous, Faulty}
 use Rattle.fs_app_test.specs.SaidVerdicts.{IsForbidden, IsTestedAs, Says}
-use Rattle.fs_app_audit.specs.Audit.{IsTested, IsFirstAuditFault, of_anew, of_memory, of_places, of_test}
+use Rattle.fs_app_audit.specs.Audit.{IsTested, IsFirstAuditFault, IsFirstPlacesFault, of_anew, of_memory, of_places, of_test}
 use Rattle.fs_app_audit.specs.InPlace.{offers_in_place}
-use Rattle.fs_app_audit.specs.declared.asked.Purpose.TheVariants.{Advise}
+use Rattle.fs_app_audit.specs.declared.asked.Purpose.{Purpose}
 use Rattle.fs_app_audit.proofs.FirstFaults.{audit-memory}
 
 says_forbidden : (t : Test) (why : List ℕ) (w : Option Witness) → Says t Forbidden why w → IsForbidden t
@@ -26,6 +26,9 @@ says_forbidden t why (Some w) h = absurd h
 
 pub forbidden : (t : Test) (why : List ℕ) (w : Option Witness) → IsTestedAs t Forbidden why w → IsForbidden t
 forbidden t why w h = says_forbidden t why w h.says
+
+pub forbidden_as : (t : Test) (k : Kind) (why : List ℕ) (w : Option Witness) → k ≡ Forbidden → IsTestedAs t k why w → IsForbidden t
+forbidden_as t k why w is h = forbidden t why w (subst (λ (j : Kind). IsTestedAs t j why w) is h)
 
 says_vacuous : (t : Test) (why : List ℕ) (w : Option Witness) → Says t Vacuous why w → Says t Vacuous why None
 says_vacuous t why None h = h
@@ -51,15 +54,15 @@ pub memory-audited : {T : Type 0} (test : List ℕ) (limit : ℕ) (table : Price
 memory-audited test limit table (Ok x) h = tt
 memory-audited test limit table (Err f) h = λ prices priced. subst (IsFirstAuditFault test prices limit) (sym h) (of_anew of_memory)
 
-module _ (test prices : List ℕ) (limit : ℕ) (table : PriceTable) (priced : ArePricesOf prices table) (t : Test) (reads : Reads test t)
+module _ (purpose : Purpose) (test prices : List ℕ) (limit : ℕ) (table : PriceTable) (priced : ArePricesOf prices table) (t : Test) (reads : Reads test t)
     (tested : IsTested t) where
   -- why there is nothing in place
   abbrev IsFaultInPlace : Fault → Type 0
   IsFaultInPlace f = IsTestFault test f ⊎ ((u : Test) × IsSame u (emptied t) × IsLimitFault (record { test = u; offers = offers_in_place table t.codes }) limit f)
 
-  pub fault-in-place : (f : Fault) → (f ≢ Memory → IsFaultInPlace f) → IsFirstAuditFault test prices limit f
+  pub fault-in-place : (f : Fault) → (f ≢ Memory → IsFaultInPlace f) → IsFirstPlacesFault purpose test prices limit f
   fault-in-place f h = elim (is_memory f) [
-    | inl e ↦ of_anew (audit-memory Advise test prices limit f e)
+    | inl e ↦ of_anew (audit-memory purpose test prices limit f e)
     | inr n ↦ elim (h n) [
       | inl form ↦ of_anew (of_test table priced form)
       | inr found ↦ of_places table t found.0 priced reads tested found.1 found.2

@@ -1,6 +1,7 @@
 -- What `audit` answers, in place and anew, and its fault.
 use Rattle.std.specs.Prelude.{◌≡◌, ◌⊎◌, ◌==◌, ◌-◌, ◌&&◌, ◌||◌, not, ℕ, Bool, true, false, Option, None, Some, is_none, List, [], ◌∷◌, ◌++◌, if◌then◌else◌}
 use Rattle.std.specs.List.{flat_map, enumerate_from, list_all}
+use Rattle.std.specs.Str.{bytes_eq}
 use Rattle.fs_instr.specs.declared.instr.Instr.{Instr}
 use Rattle.fs_kinds.specs.declared.fault.Fault.{Fault}
 use Rattle.fs_kinds.specs.declared.fault.Fault.TheVariants.{Memory}
@@ -30,7 +31,9 @@ use Rattle.fs_litmus.specs.Faults.{IsTestFault}
 use Rattle.fs_app_place_order.specs.Place.{ArePricesOf, IsPricesFault}
 use Rattle.fs_app_test.specs.declared.said.Kind.{Kind}
 use Rattle.fs_app_test.specs.declared.said.Kind.TheVariants as verdict
-use Rattle.fs_app_test.specs.SaidVerdicts.{IsFaultOf, IsTestedAs}
+use Rattle.fs_app_test.specs.SaidVerdicts.{IsFaultOf, IsForbidden, IsTestedAs}
+use Rattle.fs_app_audit_text.specs.Kept.{keeps}
+use Rattle.fs_app_audit_text.specs.Rewritten.{rewritten}
 use Rattle.fs_app_audit.specs.Unfenced.{eased, is_fence, memory_kind, unfenced}
 use Rattle.fs_app_audit.specs.Advice.{slot_of}
 use Rattle.fs_app_audit.specs.declared.asked.Purpose.{Purpose}
@@ -197,6 +200,39 @@ pub record IsVacuousAudit (test prices text : List ℕ) (status : Status) : Type
   pub shown : text ≡ vacuous_line (written_cost (offers_in_place table own.codes)) why
   pub ends : status ≡ ending.Vacuous
 
+-- Its text is as it was but for FENCEs. It reads as the test in which FENCEs are those of the placement, each in its own
+-- place, and of that test no execution shows the outcome.
+pub record IsRewritten (test : List ℕ) (own : Test) (p : List Entry) (text : List ℕ) : Type 0 where
+  pub kept : keeps false test text ≡ true
+  pub made : Test
+  pub reads : Reads text made
+  pub same : IsSame made (rewritten p own)
+  pub forbidden : IsForbidden made
+
+-- 0 where nothing changed, else 1
+abbrev pub written_status : (test text : List ℕ) → Status
+written_status test text = if bytes_eq test text then ending.Success else ending.Denied
+
+-- the test is forbidden as it is written, and has in its text the fences that are advised in place
+pub record IsWrittenInPlace (test prices text : List ℕ) (status : Status) : Type 0 where
+  pub own : Test
+  pub reads : Reads test own
+  pub table : PriceTable
+  pub priced : ArePricesOf prices table
+  pub forbidden : IsForbidden own
+  pub empty : Test
+  pub same : IsSame empty (emptied own)
+  pub advised : List Entry
+  pub cheapest : offers.IsCheapest empty (offers_in_place table own.codes) advised
+  pub shown : IsRewritten test own advised text
+  pub ends : status ≡ written_status test text
+
+-- what `--write` prints: the file with other FENCEs, where the test is forbidden as it is written; or the test with the
+-- cheapest fences, in the printed form
+pub data IsWritten (test prices text : List ℕ) (status : Status) : Type 0 where
+  of_file : IsWrittenInPlace test prices text status → IsWritten test prices text status
+  of_printed : IsMended test prices text status → IsWritten test prices text status
+
 -- how much less the fences cost that are advised in place
 abbrev pub saved_in_place : Findings → List Entry → ℕ
 saved_in_place f p =
@@ -237,11 +273,14 @@ abbrev pub IsFirstAnewFault : (test prices : List ℕ) (limit : ℕ) → Fault �
 IsFirstAnewFault = IsFirstFault Advise
 
 -- the same faults; and where the test is forbidden as it is written, those of the search in place
-pub data IsFirstAuditFault (test prices : List ℕ) (limit : ℕ) : Fault → Type 0 where
-  of_anew : {fault : Fault} → IsFirstAnewFault test prices limit fault → IsFirstAuditFault test prices limit fault
+pub data IsFirstPlacesFault (purpose : Purpose) (test prices : List ℕ) (limit : ℕ) : Fault → Type 0 where
+  of_anew : {fault : Fault} → IsFirstFault purpose test prices limit fault → IsFirstPlacesFault purpose test prices limit fault
   of_places : {fault : Fault} (table : PriceTable) (t u : Test) → ArePricesOf prices table → Reads test t → IsTested t
       → IsSame u (emptied t) → IsLimitFault (record { test = u; offers = offers_in_place table t.codes }) limit fault
-      → IsFirstAuditFault test prices limit fault
+      → IsFirstPlacesFault purpose test prices limit fault
 
-abbrev pub IsFirstMendedFault : (test prices : List ℕ) (limit : ℕ) → Fault → Type 0
-IsFirstMendedFault = IsFirstFault Write
+abbrev pub IsFirstAuditFault : (test prices : List ℕ) (limit : ℕ) → Fault → Type 0
+IsFirstAuditFault = IsFirstPlacesFault Advise
+
+abbrev pub IsFirstWrittenFault : (test prices : List ℕ) (limit : ℕ) → Fault → Type 0
+IsFirstWrittenFault = IsFirstPlacesFault Write

@@ -1,8 +1,7 @@
 -- `audit` in place: what may stand in the places of a test's FENCEs, what is advised there, and what is printed.
-use Rattle.std.specs.Prelude.{ℕ, ◌+◌, ◌*◌, not, Bool, if◌then◌else◌, Option, None, Some, option_map, List, [], ◌∷◌, ◌++◌, codes, map, length}
+use Rattle.std.specs.Prelude.{ℕ, ◌+◌, Bool, if◌then◌else◌, Option, None, Some, List, [], ◌∷◌, ◌++◌, codes, map, length}
 use Rattle.std.specs.Fmt.{decimal}
 use Rattle.std.specs.List.{enumerate_from, flat_map, list_all, slice_index_or}
-use Rattle.std.specs.Option.{option_or}
 use Rattle.fs_instr.specs.declared.instr.Instr.{Instr}
 use Rattle.fs_kinds.specs.declared.kind.Kind.{Kind}
 use Rattle.fs_kinds.specs.declared.placement.Entry.{Entry}
@@ -15,10 +14,10 @@ use Rattle.fs_model.specs.Numbers.{numbers_below}
 use Rattle.fs_model.specs.Printed.{ended}
 use Rattle.fs_model.specs.Slots.{slot_at}
 use Rattle.fs_model_in_place.specs.InPlace.{kind_there, places, written_at}
-use Rattle.fs_board_offers.specs.Breaks.{least_of}
 use Rattle.fs_board_offers.specs.Offers.{Offer, Offers, kind_cost}
 use Rattle.fs_app_io.specs.declared.status.Status.{Status}
 use Rattle.fs_app_io.specs.declared.status.Status.TheVariants as status
+pub use Rattle.fs_app_audit_prices.specs.Prices.{price_above, written_price, price_below, price_in_place, weighed}
 use Rattle.fs_app_audit.specs.Standing.{access_after, is_at, is_between_accesses}
 use Rattle.fs_app_audit.specs.Advice.{is_content, is_device_fence, slot_of}
 use Rattle.fs_app_audit.specs.Report.{advised, line_of}
@@ -37,28 +36,6 @@ weight_there prices hart code at = weight_of prices (weighed_by hart code at (ac
 
 abbrev pub weight_in_place : PriceTable → List (List Instr) → Slot → ℕ
 weight_in_place prices codes s = weight_there prices s.hart (slice_index_or codes s.hart []) s.at
-
--- the price of the second kind, where it orders all that the first one orders
-abbrev pub price_above : PriceTable → (own above : Kind) → Option ℕ
-price_above prices own above = if no_stronger own above then price_of prices above else None
-
--- what the written kind costs; one that has no price costs what the cheapest does that orders all that it orders
-abbrev pub written_price : PriceTable → Kind → Option ℕ
-written_price prices own = option_or (price_of prices own) (least_of (price_above prices own) all_kinds)
-
--- what a kind costs where this one is written: there may stand that one, and what orders less
-abbrev pub price_below : PriceTable → (own kind : Kind) → Option ℕ
-price_below prices own kind =
-    if not (no_stronger kind own) then None
-    else if no_stronger own kind then written_price prices own
-    else price_of prices kind
-
-abbrev pub price_in_place : PriceTable → (own : Option Kind) → Kind → Option ℕ
-price_in_place prices None kind = None
-price_in_place prices (Some own) kind = price_below prices own kind
-
-abbrev pub weighed : (weight : ℕ) → Option ℕ → Option ℕ
-weighed weight price = option_map (λ n. n * weight) price
 
 abbrev pub offer_in_place : PriceTable → List (List Instr) → Slot → Offer
 offer_in_place prices codes s = record {

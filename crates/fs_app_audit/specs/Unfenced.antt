@@ -1,17 +1,11 @@
 -- The test without its FENCE instructions, but for those that name devices; and the test in which these order no
 -- memory.
-use Rattle.std.specs.Prelude.{ℕ, Bool, false, not, ◌&&◌, ◌||◌, List, map, filter, count_by, take, if◌then◌else◌}
+use Rattle.std.specs.Prelude.{ℕ, Bool, not, ◌&&◌, ◌||◌, List, map, filter, count_by, take, if◌then◌else◌}
 use Rattle.fs_instr.specs.declared.instr.Instr.{Instr}
 use Rattle.fs_instr.specs.declared.instr.Instr.TheVariants.{Branch, Jump, Fence}
 use Rattle.fs_model.specs.declared.test.Test.{Test}
+pub use Rattle.fs_app_audit_text.specs.Fences.{names_devices}
 pub use Rattle.fs_model_in_place.specs.InPlace.{kind_of_sides, memory_kind, is_fence, devices}
-
--- ---- whether a FENCE names devices
-
--- a FENCE that has i or o among its letters: it names input or output
-abbrev pub names_devices : Instr → Bool
-names_devices (Fence before after) = (before.input || before.output) || (after.input || after.output)
-names_devices _ = false
 
 -- ---- the test without those that order memory and name no devices
 

@@ -2,18 +2,14 @@
 
 ghost use Rattle.std.specs.Prelude.{◌≡◌, ◌≤◌, ◌++◌, ℕ, List as Items, Option, IfOk, IfErr, IsOkUnless, string_bytes};
 ghost use Rattle.std.specs.Arc.{arc_value};
-ghost use Rattle.fs_kinds.specs.Placement.{slots_of};
-ghost use Rattle.fs_model.specs.Fenced.{fenced};
-ghost use Rattle.fs_model.specs.Printed.{printed};
-ghost use Rattle.fs_model.specs.Slots.{slots};
 ghost use Rattle.fs_model.specs.Test.{IsBounded, IsTest};
 ghost use Rattle.fs_model.specs.Witness.{Witness as Shown};
 ghost use Rattle.fs_litmus.specs.Reads.{Reads};
 ghost use Rattle.fs_app_place_order.specs.Place.{ArePricesOf};
 ghost use Rattle.fs_app_test.specs.SaidVerdicts.{IsTestedAs, witness_in};
-ghost use Rattle.fs_app_audit.specs.Audit.{IsAudited, IsAuditedAnew, IsMended, audit_text, fenced_text};
+ghost use Rattle.fs_app_audit.specs.Audit.{IsAudited, IsAuditedAnew, audit_text};
 ghost use Rattle.fs_app_audit.specs.Audit.{in_place_text, saved_in_place};
-ghost use Rattle.fs_app_audit.specs.Audit.{IsFirstAnewFault, IsFirstAuditFault, IsFirstMendedFault};
+ghost use Rattle.fs_app_audit.specs.Audit.{IsFirstAnewFault, IsFirstAuditFault};
 ghost use Rattle.fs_app_audit.specs.InPlace.{in_place_status, offers_in_place, vacuous_line, written_cost};
 ghost use Rattle.fs_app_audit.specs.Report.{audit_status};
 ghost use Rattle.fs_app_audit.specs.inner.Made.{IsSound, findings_of};
@@ -26,8 +22,8 @@ use crate::report::{audit_status, below, first_line};
 use crate::report_in_place::{costs_line, in_place_status, lines_in_place, vacuous_line};
 use fs_app_io::{Output, Status};
 use fs_app_test::{Kind, Said, judge_test};
-use fs_kinds::{Fault, Placement, Prices, read_prices};
-use fs_litmus::{Test, write_fenced};
+use fs_kinds::{Fault, Prices, read_prices};
+use fs_litmus::Test;
 use std::alloc::{AllocError, Global};
 use std::sync::Arc;
 
@@ -246,26 +242,6 @@ pub fn run_anew(alloc: Global, test: &[u8], prices: &[u8], limit: usize) -> Resu
     Ok(found_anew(alloc, &found)?)
 }
 
-/// A test that has fences which rule the outcome out, in the printed form of herd7's format; nothing is printed where
-/// none do. Each FENCE that names devices stays as it is, with all that it orders. The others are taken out, and of the
-/// fences that come in their place none cost less: they are found as those of `run_anew`, over the slots of what is
-/// left. The status is that of `run_anew` if of the FENCEs that stay nothing were said, and the faults are the same,
-/// but that this search may end with another one.
-pub fn run_mended(alloc: Global, test: &[u8], prices: &[u8], limit: usize) -> Result<Output, Fault>
-    requires least { 1 ≤ limit }
-    requires most { limit ≤ 1000000 }
-    ensures answer { IfOk result (λ output.
-        IsMended test.now prices.now (string_bytes output.text) output.status) }
-    ensures fault { IfErr result (IsFirstMendedFault test.now prices.now limit) }
-{
-    let found = find(alloc, Purpose::Write, test, prices, limit)?;
-    let text = mended_text(alloc, &found)?;
-    Ok(Output {
-        text,
-        status: status_of(&found),
-    })
-}
-
 fn audit_text(alloc: Global, found: &Findings) -> Result<String, AllocError>
     requires { IsSound found.now }
     ensures { IfOk result (λ text. string_bytes text ≡ audit_text (findings_of found.now)) }
@@ -288,31 +264,8 @@ fn audit_text(alloc: Global, found: &Findings) -> Result<String, AllocError>
     Ok(text)
 }
 
-fn mended_text(alloc: Global, found: &Findings) -> Result<String, Fault>
-    requires { IsSound found.now }
-    ensures ok { IfOk result (λ text. string_bytes text ≡ fenced_text (findings_of found.now).bare found.now.best) }
-    ensures err { IsOkUnless result Fault.Memory }
-{
-    match &found.best {
-        Some(best) => mended(alloc, &found.question.test, best),
-        None => Ok(String::new(alloc)),
-    }
-}
-
-/// The test with the fences of a placement over its slots.
-fn mended(alloc: Global, test: &Test, best: &Placement) -> Result<String, Fault>
-    requires bounded { IsBounded test.now }
-    requires slots { slots_of best.now ≡ slots test.now }
-    ensures ok { IfOk result (λ text. string_bytes text ≡ printed (fenced test.now best.now)) }
-    ensures err { IsOkUnless result Fault.Memory }
-{
-    match write_fenced(alloc, test, best) {
-        Ok(text) => Ok(text),
-        Err(_) => Err(Fault::Memory), // the slots are the test's, so it can be nothing else
-    }
-}
-
-fn status_of(found: &Findings) -> Status
+/// The status of what was found anew.
+pub(crate) fn status_of(found: &Findings) -> Status
     requires { IsSound found.now }
     ensures { result ≡ audit_status found.now.written.kind (findings_of found.now).codes found.now.best }
 {

@@ -3,7 +3,7 @@
 ghost use Rattle.std.specs.Prelude.{◌≡◌, map, IfOk};
 ghost use Rattle.fs_app_audit.specs.Unfenced.{devices, eased_instr, eased_code, eased};
 
-use crate::removal::{is_fence, names_devices};
+use crate::{is_fence, names_devices};
 use fs_instr::{Instr, Letters};
 use fs_model::{Code, Codes, Test};
 use std::alloc::{AllocError, Global};

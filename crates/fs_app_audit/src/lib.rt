@@ -21,12 +21,15 @@ mod report;
 mod report_in_place;
 pub mod slices;
 mod standing;
+mod written;
 
 pub use advice::Advice;
 pub use asked::Purpose;
-pub use audit::{Audited, run_anew, run_audit, run_mended};
+pub use audit::{Audited, run_anew, run_audit};
 pub use blocks::{Block, Found, audit_file, blocks_of, blocks_output};
 pub use easing::eased;
 pub use emptying::emptied;
+pub use fs_app_audit_text::{is_fence, memory_kind, names_devices};
 pub use laws::{advised_fences_are_needed, lines_can_be_followed};
-pub use removal::{is_fence, memory_kind, names_devices, position, unfenced};
+pub use removal::{position, unfenced};
+pub use written::run_written;

@@ -1,20 +1,19 @@
 //! The places of the FENCEs of a test, what may stand in each, and what it costs there.
 
-ghost use Rattle.std.specs.Prelude.{◌≡◌, ◌≤◌, ◌<◌, ◌*◌, ◌^◌, All, IfOk, IfSome, IsTrue, length, map};
+ghost use Rattle.std.specs.Prelude.{◌≡◌, ◌≤◌, ◌<◌, ◌*◌, ◌^◌, All, IfOk, IsTrue, length, map};
 ghost use Rattle.fs_kinds.specs.Limits.{most_harts, most_instructions, most_numbered};
 ghost use Rattle.fs_kinds.specs.Kind.{all_kinds};
 ghost use Rattle.fs_kinds.specs.PriceTable.{most_weight};
 ghost use Rattle.fs_kinds.specs.Slot.{is_rising};
-ghost use Rattle.fs_board_offers.specs.Breaks.{least_of};
 ghost use Rattle.fs_model_in_place.specs.InPlace.{is_place, places, places_in};
 ghost use Rattle.fs_app_audit.specs.Standing.{access_after};
-ghost use Rattle.fs_app_audit.specs.InPlace.{offer_in_place, offers_in_place, price_above, price_below, price_in_place};
+ghost use Rattle.fs_app_audit.specs.InPlace.{offer_in_place, offers_in_place, price_in_place};
 ghost use Rattle.fs_app_audit.specs.InPlace.{weighed, weighed_by, weight_in_place, weight_there, written_cost};
-ghost use Rattle.fs_app_audit.specs.InPlace.{written_price};
 
 use crate::advice::{code_of, kind_there, slot_of};
 use crate::standing::access_after;
-use fs_board_offers::{Offer, Offers, lesser};
+use fs_app_audit_prices::cost_in_place;
+use fs_board_offers::{Offer, Offers};
 use fs_instr::Instr;
 use fs_kinds::{Kind, Prices, Slot};
 use fs_litmus::Code;
@@ -52,76 +51,6 @@ fn places(alloc: Global, codes: &[Code]) -> Result<Vec<Slot>, AllocError>
         found.extend_from_slice(&here)?;
     }
     Ok(found)
-}
-
-// ---- what a kind costs in a place
-
-/// The price of the second kind, where it orders all that the first one orders.
-fn price_above(prices: &Prices, own: Kind, above: Kind) -> Option<u32>
-    ensures value { result ≡ price_above prices.now own above }
-    ensures most { IfSome result (λ n. n ≤ 1000000) }
-{
-    if own.no_stronger(above) {
-        prices.of(above)
-    } else {
-        None
-    }
-}
-
-/// The least of these prices. It calls itself once for each kind.
-fn least_above(prices: &Prices, own: Kind, kinds: &[Kind]) -> Option<u32>
-    ensures value { result ≡ least_of (price_above prices.now own) kinds.now }
-    ensures most { IfSome result (λ n. n ≤ 1000000) }
-{
-    let [kind, kinds @ ..] = kinds else {
-        return None;
-    };
-    lesser(
-        price_above(prices, own, *kind),
-        least_above(prices, own, kinds),
-    )
-}
-
-/// What the written kind costs; one that has no price costs what the cheapest does that orders all that it orders.
-fn written_price(prices: &Prices, own: Kind) -> Option<u32>
-    ensures value { result ≡ written_price prices.now own }
-    ensures most { IfSome result (λ n. n ≤ 1000000) }
-{
-    match prices.of(own) {
-        Some(price) => Some(price),
-        None => least_above(prices, own, &Kind::ALL),
-    }
-}
-
-/// What a kind costs where this one is written: there may stand that one, and what orders less.
-fn price_below(prices: &Prices, own: Kind, kind: Kind) -> Option<u32>
-    ensures value { result ≡ price_below prices.now own kind }
-    ensures most { IfSome result (λ n. n ≤ 1000000) }
-{
-    if !kind.no_stronger(own) {
-        None
-    } else if own.no_stronger(kind) {
-        written_price(prices, own)
-    } else {
-        prices.of(kind)
-    }
-}
-
-fn price_in_place(prices: &Prices, own: Option<Kind>, kind: Kind) -> Option<u32>
-    ensures value { result ≡ price_in_place prices.now own kind }
-    ensures most { IfSome result (λ n. n ≤ 1000000) }
-{
-    let own = own?;
-    price_below(prices, own, kind)
-}
-
-/// That, times the weight.
-fn cost_in_place(prices: &Prices, weight: u32, own: Option<Kind>, kind: Kind) -> Option<u32>
-    requires { weight ≤ most_weight }
-    ensures { result ≡ weighed weight (price_in_place prices.now own kind) }
-{
-    let price = price_in_place(prices, own, kind)?;
-    Some(price * weight)
 }
 
 // ---- its weight

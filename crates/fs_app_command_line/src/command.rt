@@ -2,6 +2,7 @@
 use crate::completions::{Shell, script};
 use clap::error::ErrorKind;
 use clap::{Arg, ArgAction, ArgMatches, Command, Error, value_parser};
+use fs_kinds::read_place;
 use std::alloc::{AllocError, Global};
 
 /// The version of the program, which `--version` prints behind its name.
@@ -247,8 +248,10 @@ the FENCE doesn't order all, `K is missing` asks for a fence before this instruc
 `at no slot` says that a label or a branch stands behind the FENCE. Follow these together.
 Where the outcome is vacuous there are no lines.
 
-With --write the test is printed with the cheapest fences in place of its own.
-FENCEs with i or o among their letters stay as they are.
+With --write the file is printed with what is advised in the places of its FENCEs; all else
+stays as it is, and so do FENCEs with i or o among their letters. With -i the file itself
+becomes so. Where the outcome can happen as the test is written, --write prints the test anew
+with the cheapest fences, and -i leaves the file.
 
 Of several files, also those of a folder or a list as `test` takes them, each has its name
 above what is said of it, and an empty line below. A last line counts them:
@@ -256,10 +259,10 @@ above what is said of it, and an empty line below. A last line counts them:
   3 tests: 1 forbidden, 1 allowed, 1 vacuous; 10 could be saved in place
 
 There a fault stands in the place of a file's lines, and the status is 1 where it is of
-some file, else 2, else 4, else 0. --write takes one file.
+some file, else 2, else 4, else 0. --write and -i take one file.
 
 Exit status:
-  0  each FENCE is needed
+  0  each FENCE is needed; with -i, the file is as advised
   1  there is something to change, or the outcome can happen as the test is written
   2  a fault, a line on standard error as `fault F11 NoTop` and a message that explains
      it, or a bad command line
@@ -373,16 +376,18 @@ const JSON_HELP: &str = "Print a JSON object";
 const ORDER_WHY_HELP: &str = "Tell the execution of a yes, operation by operation";
 
 const TEST_WHY_HELP: &str =
-    "Tell an execution of each allowed outcome, and why one is forbidden; not with --json";
+    "Tell an execution of each allowed outcome, why one is forbidden (=all, or =P1:6); no --json";
 
 const WITHOUT_HELP: &str =
-    "Tell contradictions, and an execution without each fence, or that of `none`; not with --json";
+    "Tell contradictions and executions without fences (=all, or of one fence =P1:6); no --json";
 
 const SHELL_HELP: &str = "Which shell is to read it";
 
 const ANEW_HELP: &str = "Compare with the cheapest fences in the test without FENCEs";
 
-const WRITE_HELP: &str = "Print the test with the cheapest fences in place of its own";
+const WRITE_HELP: &str = "Print the file with its FENCEs as advised";
+
+const IN_PLACE_HELP: &str = "Write FENCEs as advised into the file itself";
 
 const QUIET_HELP: &str = "Say nothing on standard error but a line for what is wrong";
 
@@ -447,6 +452,19 @@ impl Task<'_> {
     }
 }
 
+impl Task<'_> {
+    /// Whether what is to be told is of a word that is no place.
+    pub fn asks_unclearly(&self) -> bool {
+        let why = match self {
+            Task::Test(test) => test.why,
+            Task::Solve(solve) => solve.why,
+            Task::Check(check) => check.why,
+            _ => Why::Untold,
+        };
+        matches!(why, Why::Unclear(_))
+    }
+}
+
 /// What `test` was asked for.
 #[derive(Drop)]
 pub struct Test<'a> {
@@ -457,8 +475,23 @@ pub struct Test<'a> {
     pub jobs: u8,
     /// Whether JSON is to be printed.
     pub json: bool,
-    /// Whether executions are to be told below the lines.
-    pub why: bool,
+    /// What is to be told below the lines.
+    pub why: Why<'a>,
+}
+
+/// What is to be told below answers.
+#[derive(Clone, Copy, Debug)]
+pub enum Why<'a> {
+    /// Nothing.
+    Untold,
+    /// Executions, and contradictions; of many kinds of these such as have a fence for the first time.
+    Few,
+    /// The same, and all kinds.
+    All,
+    /// What has to do with the fence at this place, as `P1:6`.
+    Fence { hart: u8, at: u8 },
+    /// A word that is no place.
+    Unclear(&'a str),
 }
 
 /// Where it is said what is expected of tests.
@@ -516,8 +549,8 @@ pub struct Solve<'a> {
     pub certificate: Option<&'a str>,
     /// Whether JSON is to be printed.
     pub json: bool,
-    /// Whether executions are to be told below the answer.
-    pub why: bool,
+    /// What is to be told below the answer.
+    pub why: Why<'a>,
 }
 
 /// What `solve --sites` was asked for.
@@ -540,6 +573,8 @@ pub struct Audit<'a> {
     pub anew: bool,
     /// Whether the mended test is to be printed.
     pub write: bool,
+    /// Whether the file is to be mended.
+    pub in_place: bool,
     /// How many threads judge files: from 1 to 16.
     pub jobs: u8,
     /// How many nodes the search may make: from 1 to 1,000,000.
@@ -554,8 +589,8 @@ pub struct Check<'a> {
     pub certificate: &'a str,
     /// Whether JSON is to be printed.
     pub json: bool,
-    /// Whether executions are to be told below the answer.
-    pub why: bool,
+    /// What is to be told below the answer.
+    pub why: Why<'a>,
 }
 
 /// The request that the words make, the program's name first. An error holds the text for the user, and help and the
@@ -584,8 +619,8 @@ fn asks_for_sites(words: &[String]) -> bool {
     false
 }
 
-/// The same where `audit` and `solve` take one file, for words that aren't understood otherwise. The error is the first one, but
-/// where it says that words are missing.
+/// The same where `audit` and `solve` take one file, for words that aren't understood otherwise. The error is the first
+/// one, but where it says that words are missing.
 fn matches_of_one<'a>(
     alloc: Global,
     words: &'a [String],
@@ -631,8 +666,22 @@ fn test_of<'a>(alloc: Global, found: &ArgMatches<'a>) -> Result<Test<'a>, AllocE
         expect: expectations_of(found),
         jobs: found.get_one::<u8>("jobs").unwrap_or(ONE_WORKER),
         json: found.get_flag("json"),
-        why: found.get_flag("why"),
+        why: why_of(found),
     })
+}
+
+/// By `--why` or `--why=WHICH`.
+fn why_of<'a>(found: &ArgMatches<'a>) -> Why<'a> {
+    let which = found.get_str("why").unwrap_or("");
+    match which {
+        "" => Why::Untold,
+        "all" => Why::All,
+        _ if which == NO_PATH => Why::Few,
+        _ => match read_place(which) {
+            Some((Some(hart), Some(at))) => Why::Fence { hart, at },
+            _ => Why::Unclear(which),
+        },
+    }
 }
 
 /// By `--expect` or `--expect=LIST`.
@@ -708,7 +757,7 @@ fn solve_of<'a>(found: &ArgMatches<'a>) -> Solve<'a> {
         nodes: found.get_one::<u32>("nodes").unwrap_or(MOST_NODES),
         certificate: found.get_str("cert"),
         json: found.get_flag("json"),
-        why: found.get_flag("why"),
+        why: why_of(found),
     }
 }
 
@@ -727,6 +776,7 @@ fn audit_of<'a>(alloc: Global, found: &ArgMatches<'a>) -> Result<Audit<'a>, Allo
         prices: found.get_str("PRICES").unwrap_or(""),
         anew: found.get_flag("anew"),
         write: found.get_flag("write"),
+        in_place: found.get_flag("in-place"),
         jobs: found.get_one::<u8>("jobs").unwrap_or(ONE_WORKER),
         nodes: found.get_one::<u32>("nodes").unwrap_or(MOST_NODES),
     })
@@ -738,7 +788,7 @@ fn check_of<'a>(found: &ArgMatches<'a>) -> Check<'a> {
         prices: found.get_str("PRICES").unwrap_or(""),
         certificate: found.get_str("CERTIFICATE").unwrap_or(""),
         json: found.get_flag("json"),
-        why: found.get_flag("why"),
+        why: why_of(found),
     }
 }
 
@@ -831,6 +881,8 @@ enum Form {
     Shell,
     /// A word after `--` by itself.
     Flag,
+    /// The same, or its first letter after `-`.
+    Letter,
     /// A word after `--`, with a value.
     Option,
     /// A word after `--` by itself, or with `=` and a value. By itself its value is `NO_PATH`.
@@ -850,7 +902,7 @@ struct Parameter {
     help: &'static str,
 }
 
-const PARAMETERS: [Parameter; 37] = [
+const PARAMETERS: [Parameter; 38] = [
     Parameter {
         command: "test",
         name: "FILE",
@@ -882,8 +934,8 @@ const PARAMETERS: [Parameter; 37] = [
     Parameter {
         command: "test",
         name: "why",
-        form: Form::Flag,
-        value: "",
+        form: Form::Optional,
+        value: "WHICH",
         help: TEST_WHY_HELP,
     },
     Parameter {
@@ -938,8 +990,8 @@ const PARAMETERS: [Parameter; 37] = [
     Parameter {
         command: "solve",
         name: "why",
-        form: Form::Flag,
-        value: "",
+        form: Form::Optional,
+        value: "WHICH",
         help: WITHOUT_HELP,
     },
     Parameter {
@@ -969,6 +1021,13 @@ const PARAMETERS: [Parameter; 37] = [
         form: Form::Flag,
         value: "",
         help: WRITE_HELP,
+    },
+    Parameter {
+        command: "audit",
+        name: "in-place",
+        form: Form::Letter,
+        value: "",
+        help: IN_PLACE_HELP,
     },
     Parameter {
         command: "audit",
@@ -1099,8 +1158,8 @@ const PARAMETERS: [Parameter; 37] = [
     Parameter {
         command: "check",
         name: "why",
-        form: Form::Flag,
-        value: "",
+        form: Form::Optional,
+        value: "WHICH",
         help: WITHOUT_HELP,
     },
     Parameter {
@@ -1119,7 +1178,7 @@ struct Conflict {
     other: &'static str,
 }
 
-const CONFLICTS: [Conflict; 8] = [
+const CONFLICTS: [Conflict; 10] = [
     Conflict {
         command: "test",
         name: "why",
@@ -1151,6 +1210,16 @@ const CONFLICTS: [Conflict; 8] = [
         other: "anew",
     },
     Conflict {
+        command: "audit",
+        name: "in-place",
+        other: "anew",
+    },
+    Conflict {
+        command: "audit",
+        name: "in-place",
+        other: "write",
+    },
+    Conflict {
         command: "states",
         name: "json",
         other: "log",
@@ -1168,33 +1237,63 @@ fn whole_command<'a>(
     audits_many: bool,
     solves_many: bool,
 ) -> Result<Command<'a>, AllocError> {
-    let mut program = Command::new(alloc, "rvfence")
-        .version(VERSION)
-        .about("Fences for RISC-V litmus tests under RVWMO")
-        .after_help(PROGRAM_HELP)
-        .subcommand_required(true);
+    let mut program = bare_program(alloc);
     for entry in &COMMANDS {
         let many = match entry.name {
             "audit" => audits_many,
             "solve" => solves_many,
             _ => true,
         };
-        program = program.subcommand(command_of(alloc, entry, many)?)?;
+        program = with_command(alloc, program, entry, many)?;
     }
     Ok(program)
 }
 
+/// The program without its commands.
+fn bare_program<'a>(alloc: Global) -> Command<'a> {
+    Command::new(alloc, "rvfence")
+        .version(VERSION)
+        .about("Fences for RISC-V litmus tests under RVWMO")
+        .after_help(PROGRAM_HELP)
+        .subcommand_required(true)
+}
+
+/// The program with this command.
+fn with_command<'a>(
+    alloc: Global,
+    program: Command<'a>,
+    entry: &Entry,
+    many: bool,
+) -> Result<Command<'a>, AllocError> {
+    program.subcommand(command_of(alloc, entry, many)?)
+}
+
 /// The command, which takes one file or any number.
 fn command_of<'a>(alloc: Global, entry: &Entry, many: bool) -> Result<Command<'a>, AllocError> {
-    let mut command = Command::new(alloc, entry.name)
-        .about(entry.about)
-        .after_help(entry.help);
+    let mut command = bare_command(alloc, entry);
     for parameter in &PARAMETERS {
         if parameter.command == entry.name {
-            command = command.arg(argument_of(alloc, parameter, many)?)?;
+            command = with_argument(alloc, command, parameter, many)?;
         }
     }
     with_voice(alloc, command)
+}
+
+/// The command without its arguments.
+fn bare_command<'a>(alloc: Global, entry: &Entry) -> Command<'a> {
+    Command::new(alloc, entry.name)
+        .about(entry.about)
+        .after_help(entry.help)
+}
+
+/// The command with this argument.
+fn with_argument<'a>(
+    alloc: Global,
+    command: Command<'a>,
+    parameter: &Parameter,
+    many: bool,
+) -> Result<Command<'a>, AllocError> {
+    command.arg(argument_of(alloc, parameter, many)?)
 }
 
 /// The command with what each takes: how much is to be said on standard error.
@@ -1227,6 +1326,7 @@ fn argument<'a>(alloc: Global, parameter: &Parameter, many: bool) -> Arg<'a> {
         Form::Fences => Arg::new(alloc, name).help(help).num_args(0..),
         Form::Shell => required(alloc, name, help).value_parser(SHELLS),
         Form::Flag => flag(alloc, name, help),
+        Form::Letter => flag(alloc, name, help).short('i'),
         Form::Option => option(alloc, name, parameter.value, help),
         Form::Optional => optional(alloc, name, parameter.value, help),
         Form::Threads => threads(alloc, name, help),

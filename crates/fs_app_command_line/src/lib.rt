@@ -6,6 +6,6 @@ mod completions;
 
 pub use command::{
     Audit, Check, Expectations, MOST_NODES, MOST_WORKERS, Order, Place, Request, Sites, Solve,
-    States, Task, Test, completion_script, read_request,
+    States, Task, Test, Why, completion_script, read_request,
 };
 pub use completions::Shell;

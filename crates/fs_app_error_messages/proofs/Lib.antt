@@ -3,8 +3,5 @@ pub mod Pointing
 pub mod Showing
 pub mod Telling
 pub mod Relined
-pub mod BadAtoms
-pub mod Bad
-pub mod Stopping
 pub mod Aims
 pub mod Fine

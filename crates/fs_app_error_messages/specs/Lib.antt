@@ -2,6 +2,5 @@ pub mod Places
 pub mod Walks
 pub mod Apart
 pub mod Points
-pub mod Atoms
 pub mod Messages
 pub mod Explained

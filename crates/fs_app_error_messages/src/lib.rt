@@ -3,9 +3,7 @@
 #![tactic(auto)]
 
 mod apart;
-mod atoms;
 mod bindings;
-mod condition;
 mod fences;
 mod file;
 mod hints;

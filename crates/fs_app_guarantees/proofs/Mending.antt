@@ -3,7 +3,7 @@ use Rattle.std.proofs.Common.{◌≡◌, ◌≤◌, ℕ, List, Option, None, Som
 use Rattle.fs_kinds.specs.declared.placement.Entry.{Entry}
 use Rattle.fs_app_io.specs.declared.status.Status.{Status}
 use Rattle.fs_model.specs.declared.test.Test.{Test}
-use Rattle.fs_model.specs.Allows.{Allows}
+use Rattle.fs_model.specs.Allows.{Allows, no_fences}
 use Rattle.fs_model.specs.Condition.{Condition, SpeaksOf, nesting}
 use Rattle.fs_model.specs.Fenced.{fenced, fenced_codes}
 use Rattle.fs_model.specs.Printed.{printed}
@@ -12,13 +12,15 @@ use Rattle.fs_litmus.specs.Reads.{Reads}
 use Rattle.fs_litmus.proofs.ReadsTest.{is_test}
 use Rattle.fs_litmus.proofs.ReadsOnce.{reads_once}
 use Rattle.fs_kinds.specs.PriceTable.{PriceTable}
-use Rattle.fs_app_audit.specs.Audit.{IsAdvised, IsMended, fenced_text}
+use Rattle.fs_app_audit.specs.Audit.{IsAdvised, IsMended, IsWritten, fenced_text, of_file, of_printed}
 use Rattle.fs_app_audit.specs.Unfenced.{names_devices, unfenced}
 use Rattle.fs_litmus.proofs.Fencing.{read_back}
 use Rattle.fs_app_audit.proofs.Bare.{test_unfenced}
 use Rattle.fs_app_guarantees.specs.Audits.{IsNothingOrKeepsDevices, IsNothingOrMended, device_fences}
+use Rattle.fs_app_guarantees.specs.Headline.{IsPossible}
 use Rattle.fs_app_guarantees.proofs.Devices.{devices_stay}
-use Rattle.fs_app_guarantees.proofs.Kept.{Keeps, carried}
+use Rattle.fs_app_guarantees.proofs.Kept.{Keeps, carried, same_whole}
+use Rattle.fs_app_guarantees.proofs.KeptPlacements.{allows_same}
 use Rattle.fs_app_guarantees.proofs.Meaning.{ruled_out}
 
 -- whether it is a test doesn't depend on where the parts of its condition lie
@@ -61,12 +63,22 @@ best_is_mended bare prices written None h is = inl refl
 best_is_mended bare prices written (Some p) h is =
     inr (λ u reads possible. ruled_out bare h p (forbids bare prices written p is) u (inr reads) possible)
 
-pub mended : (test prices text : List ℕ) (status : Status) → IsMended test prices text status → IsNothingOrMended text
+mended : (test prices text : List ℕ) (status : Status) → IsMended test prices text status → IsNothingOrMended text
 mended test prices text status is =
     let f = is.findings in
     let own = is_test test f.test is.found.reads in
     subst IsNothingOrMended (sym is.shown)
     (best_is_mended f.bare f.prices f.written f.best (bare_is_test f.test f.bare own is.found.bare) is.found.best)
+
+possible_alike : (t u : Test) → IsSame t u → IsPossible t → IsPossible u
+possible_alike t u s h =
+    (allows_same t u s (no_fences u)).0 (subst (λ (p : List Entry). Allows t p) (ap no_fences (same_whole t u s)) h)
+
+pub written : (test prices text : List ℕ) (status : Status) → IsWritten test prices text status → IsNothingOrMended text
+written test prices text status (of_printed is) = mended test prices text status is
+written test prices text status (of_file is) =
+    let made = is.shown.made in
+    inr (λ u reads possible. is.shown.forbidden (possible_alike u made (reads_once text u made reads is.shown.reads) possible))
 
 -- ---- the FENCEs that name devices
 

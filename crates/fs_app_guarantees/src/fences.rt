@@ -8,17 +8,18 @@ ghost use Rattle.fs_app_io.specs.declared.status.Status.TheVariants.{Success};
 ghost use Rattle.fs_app_check.specs.Check.{IsChecked, yes_line};
 ghost use Rattle.fs_app_solve.specs.Solve.{IsCertified};
 ghost use Rattle.fs_app_why.specs.Why.{IsCertifiedWhy};
-ghost use Rattle.fs_app_guarantees.specs.FencesTold.{FencesAreTold};
+ghost use Rattle.fs_app_guarantees.specs.FencesTold.{AsksForAll, FencesAreTold};
+ghost use Rattle.fs_app_why_kinds.specs.declared.told.Telling.{Telling};
 
 /// A law: what `solve --why` tells below fences ends with each of them and an execution without it, and so does what
-/// `check --why` tells below a yes, whoever made the certificate. A certificate of the first version, which leaves ties
+/// `check --why` tells below a yes, whoever made the certificate, where not one fence alone is asked for. A certificate of the first version, which leaves ties
 /// open, may have none for a fence that costs nothing, at a slot that weighs nothing.
 pub fn each_fence_is_told()
-    ensures solved { (test prices lines certificate text : List ℕ) (status : Status)
-        → IsCertified test prices lines status certificate → IsCertifiedWhy test certificate text
-        → FencesAreTold test lines text }
-    ensures checked { (test prices lines certificate text : List ℕ) (c : Certificate)
+    ensures solved { (telling : Telling) (test prices lines certificate text : List ℕ) (status : Status) → AsksForAll telling
+        → IsCertified test prices lines status certificate → IsCertifiedWhy telling test certificate text
+        → FencesAreTold telling test lines text }
+    ensures checked { (telling : Telling) (test prices lines certificate text : List ℕ) (c : Certificate) → AsksForAll telling
         → IsChecked test prices certificate lines Success → IsCertificateFile certificate c → c.version ≢ First
-        → IsCertifiedWhy test certificate text
-        → (below : List ℕ) × (lines ≡ yes_line ++ below) × FencesAreTold test below text }
+        → IsCertifiedWhy telling test certificate text
+        → (below : List ℕ) × (lines ≡ yes_line ++ below) × FencesAreTold telling test below text }
 {}

@@ -15,7 +15,8 @@ use crate::question::{MOST_SITES, question_of};
 use crate::report::answer_text;
 use fs_app_io::{Output, Status};
 use fs_kinds::{Fault, Prices};
-use fs_sites::{Answer, solve};
+use fs_sites::Answer;
+use fs_sites_search::solve;
 use std::alloc::Global;
 
 /// What is printed, and how many sites the files have.

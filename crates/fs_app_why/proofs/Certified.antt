@@ -18,9 +18,10 @@ use Rattle.fs_cert_evidence.specs.WitnessFile.{KeepsWitness}
 use Rattle.fs_check.specs.declared.ordered.OrderedCandidate.{OrderedCandidate}
 use Rattle.fs_check.specs.Ordered.{execution_in}
 use Rattle.fs_region_ends.specs.Kinds.{ChainKind}
-use Rattle.fs_app_why.specs.inner.Told.{IsOfFirst, NoneBefore, NoneShows}
-use Rattle.fs_app_why.specs.Reordered.{IsFirstShown, IsToldOf}
-use Rattle.fs_app_why.specs.Why.{NoWitnessShows, TellsEntry, TellsFences}
+use Rattle.fs_app_why_nearer.specs.First.{IsOfFirst, NoneShows}
+use Rattle.fs_app_why_nearer.specs.Reordered.{IsFirstShown, IsToldOf}
+use Rattle.fs_app_why_kinds.specs.declared.told.Telling.{Telling}
+use Rattle.fs_app_why.specs.Why.{NoWitnessShows, TellsEntry, TellsFences, asked}
 
 -- the first file that is kept is of the first witness
 pub first_witness : (files : List File) (ws : List Witness) (file : File) → AllZip KeepsWitness files ws → slice_get files 0 ≡ Some file
@@ -64,19 +65,6 @@ kept_by files ws k w kept at =
     some_and (slice_get files k) (λ file. KeepsWitness file w)
     (subst (λ o. MatchOption o (Unit {0}) (λ y. IsSomeAnd (slice_get files k) (λ x. KeepsWitness x y))) at (AllZip-right KeepsWitness files ws kept k))
 
--- none before the next one, where this one shows none either
-pub none_more : (t : Test) (p : List Entry) (files : List File) (n : ℕ) (item : File) → slice_get files n ≡ Some item → NoneBefore t p files n
-    → ((w : Witness) → KeepsWitness item w → IsShownBy t p w → ⊥) → NoneBefore t p files (n + 1)
-none_more t p [] n item at before not k file less there w keeps shown = absurd (cc)
-none_more t p (f ∷ files) zero item at before not zero file less there w keeps shown =
-    let same : file ≡ item = cc in
-    not w (subst (λ g. KeepsWitness g w) same keeps) shown
-none_more t p (f ∷ files) zero item at before not (suc k) file less there w keeps shown = absurd (omega (arith, less))
-none_more t p (f ∷ files) (suc n) item at before not zero file less there w keeps shown =
-    before zero file (omega arith) there w keeps shown
-none_more t p (f ∷ files) (suc n) item at before not (suc k) file less there w keeps shown =
-    none_more t p files n item at (λ i g low e. before (suc i) g (omega (arith, low)) e) not k file (omega (arith, less)) there w keeps shown
-
 -- what is told of the first file that shows the outcome is told of the first witness that does
 pub first_told : (t : Test) (p : List Entry) (files : List File) (ws : List Witness) (o : OrderedCandidate) → AllZip KeepsWitness files ws
     → IsOfFirst t p files o → (w : Witness) × IsFirstShown t p ws w × IsToldOf t p w (execution_in o)
@@ -103,11 +91,11 @@ has_own p items k d same low =
     itself : (s : Slot) → is_same_slot s s ≡ true
     itself s = and_from _ _ (eq-eqb s.hart s.hart refl) (eq-eqb s.at s.at refl)
 
-module _ (t : Test) (lines : List (List ℕ)) (kinds : List ChainKind) (ws : List Witness) (N : List Entry → Type 0) (p : List Entry) where
+module _ (t : Test) (lines : List (List ℕ)) (telling : Telling) (kinds : List ChainKind) (ws : List Witness) (N : List Entry → Type 0) (p : List Entry) where
   -- one entry more
   pub fences_more : (entries : List Entry) (entry : Entry) (text told whole : List ℕ)
-      → TellsFences t lines kinds ws N p entries text → TellsEntry t lines kinds ws N p entry told → whole ≡ text ++ told
-      → TellsFences t lines kinds ws N p (entries ++ entry ∷ []) whole
+      → TellsFences t lines telling kinds ws N p entries text → TellsEntry t lines telling kinds ws N p (asked telling entry) told
+      → whole ≡ text ++ told → TellsFences t lines telling kinds ws N p (entries ++ entry ∷ []) whole
   fences_more [] entry text told whole none is e = (told, [], is, refl, e ∙ ap (λ before. before ++ told) none ∙ sym (append-nil told))
   fences_more (x ∷ entries) entry text told whole (first, others, is_first, are, is_text) is e =
       (first, others ++ told, is_first, fences_more entries entry others told (others ++ told) are is refl, rw (e, is_text) (append_assoc first others told))

@@ -1,5 +1,3 @@
 pub mod Certified
 pub mod Faults
-pub mod Numbered
-pub mod Reordering
-pub mod Telling
+pub mod Texts

@@ -1,15 +1,15 @@
 -- Why a test's outcome is ruled out with its fences: the ends of a refutation as chains of operations, in print. Chains
 -- that are the same but for the harts are a kind, of which one is told.
-use Rattle.std.specs.Prelude.{ℕ, ◌+◌, ◌*◌, ◌==◌, nat_le, nat_lt, ◌-◌, Bool, true, false, ◌&&◌, ◌||◌, not, Option, None, Some, option_map, List, [], ◌∷◌, ◌++◌}
-use Rattle.std.specs.Prelude.{length, map, codes, take, count_by, if◌then◌else◌}
+use Rattle.std.specs.Prelude.{ℕ, ◌+◌, ◌==◌, nat_le, nat_lt, ◌-◌, Bool, true, false, ◌&&◌, ◌||◌, not, Option, None, Some, List, [], ◌∷◌, ◌++◌}
+use Rattle.std.specs.Prelude.{length, map, codes, if◌then◌else◌}
 use Rattle.std.specs.Fmt.{decimal}
-use Rattle.std.specs.List.{enumerate_from, flat_map, list_any, slice_index_or}
+use Rattle.std.specs.List.{flat_map, list_any}
 use Rattle.fs_instr.specs.declared.instr.Instr.{Instr}
 use Rattle.fs_kinds.specs.ReasonText.{operation_name}
 use Rattle.fs_model.specs.declared.test.Location.{Location}
 use Rattle.fs_model.specs.declared.test.Test.{Test}
 use Rattle.fs_model.specs.Forms.{is_loading, is_storing}
-use Rattle.fs_model.specs.Numbers.{is_same, numbers_below}
+use Rattle.fs_model.specs.Numbers.{numbers_below}
 use Rattle.fs_model.specs.Printed.{value_text}
 use Rattle.fs_region_ends.specs.declared.chain.Arrow.{Arrow}
 use Rattle.fs_region_ends.specs.declared.chain.Arrow.TheVariants.{End}
@@ -18,13 +18,16 @@ use Rattle.fs_region_ends.specs.declared.chain.ChainLink.{ChainLink}
 use Rattle.fs_region_ends.specs.declared.chain.Shape.{Shape}
 use Rattle.fs_region_ends.specs.declared.chain.Shape.TheVariants as shape
 use Rattle.fs_region_ends.specs.declared.fences.Fence.{Fence}
-use Rattle.fs_region_ends.specs.declared.fences.Fence.TheVariants.{Placed, Written}
 use Rattle.fs_region_ends.specs.declared.known.Known.{Known}
 use Rattle.fs_region_ends.specs.Kinds.{ChainKind, told_links}
+use Rattle.fs_app_why_kinds.specs.Arrows.{arrow_text, counts_before, counts_behind, if_amo}
+use Rattle.fs_app_why_kinds.specs.Counted.{rest_text}
+use Rattle.fs_app_why_kinds.specs.declared.told.Telling.{Telling}
+use Rattle.fs_app_why_kinds.specs.Told.{is_told, kind_at, told_chain}
+use Rattle.fs_app_why_kinds.specs.Words.{instr_named, line_of, text_of_instr}
 use Rattle.fs_app_why.specs.declared.table.Row.{Row}
-use Rattle.fs_app_why.specs.Arrows.{arrow_text, counts_before, counts_behind, if_amo, instr_named}
 use Rattle.fs_app_why.specs.Tables.{table_text}
-use Rattle.fs_app_why.specs.Words.{and_joined, line_of, text_of_instr, word_text}
+use Rattle.fs_app_why.specs.Words.{word_text}
 
 -- ---- what an operation does, as far as all runs that are left agree
 
@@ -100,53 +103,6 @@ halves_by t link (Some fence) =
 abbrev pub halves_amo : Test → Chain → Bool
 halves_amo t chain = list_any (λ link. halves_by t link link.fence) chain.links
 
--- ---- which kinds are told: where there are many, those with a fence that none before them has
-
-abbrev pub few_kinds : ℕ
-few_kinds = 6
-
--- a number for the fence: its hart's, its place, and whether it is placed or written there
-abbrev pub fence_key : Fence → ℕ
-fence_key (Placed slot kind) = slot.hart * 1024 + slot.at * 2
-fence_key (Written hart at) = hart * 1024 + (at * 2 + 1)
-
--- the chain of a kind that is told
-abbrev pub told_chains : ChainKind → List Chain
-told_chains kind = take 1 kind.instances
-
-abbrev pub has_key : ℕ → Chain → Bool
-has_key key chain = list_any (λ link. is_same (option_map fence_key link.fence) (Some key)) chain.links
-
-abbrev pub is_key_among : ℕ → List ChainKind → Bool
-is_key_among key kinds = list_any (λ kind. list_any (has_key key) (told_chains kind)) kinds
-
--- the link has a fence that none of these kinds has
-abbrev pub is_new_by : List ChainKind → Option Fence → Bool
-is_new_by kinds None = false
-is_new_by kinds (Some fence) = not (is_key_among (fence_key fence) kinds)
-
-abbrev pub has_new : List ChainKind → Chain → Bool
-has_new kinds chain = list_any (λ link. is_new_by kinds link.fence) chain.links
-
-abbrev pub is_told_after : (before : List ChainKind) → ChainKind → Bool
-is_told_after before kind = list_any (has_new before) (told_chains kind)
-
-abbrev pub no_kind : ChainKind
-no_kind = record { instances = []; ends = 0 }
-
-abbrev pub kind_at : List ChainKind → ℕ → ChainKind
-kind_at kinds number = slice_index_or kinds number no_kind
-
--- the kind of this number, from 0
-abbrev pub is_told : List ChainKind → ℕ → Bool
-is_told kinds number =
-    nat_lt number (length kinds)
-    && (nat_le (length kinds) few_kinds || is_told_after (take number kinds) (kind_at kinds number))
-
--- the kind has a fence
-abbrev pub has_fence : ChainKind → Bool
-has_fence kind = is_told_after [] kind
-
 -- ---- kinds in print
 
 abbrev pub shape_text : Shape → List ℕ
@@ -166,49 +122,36 @@ module _ (t : Test) (lines : List (List ℕ)) where
   headed number count chain =
       codes "\n" ++ (shape_text chain.shape ++ (decimal number ++ (others_text count ++ chain_text t lines chain)))
 
-  abbrev pub kind_text : (number : ℕ) → ChainKind → List ℕ
-  kind_text number kind = flat_map (headed number (length kind.instances)) (told_chains kind)
+  abbrev pub kind_by : (number count : ℕ) → Option Chain → List ℕ
+  kind_by number count None = []
+  kind_by number count (Some chain) = headed number count chain
+
+  abbrev pub kind_text : Telling → (number : ℕ) → ChainKind → List ℕ
+  kind_text telling number kind = kind_by number (length kind.instances) (told_chain telling kind)
 
   -- by its number from 0; they are told by numbers from 1
-  abbrev pub numbered_text : List ChainKind → ℕ × ChainKind → List ℕ
-  numbered_text kinds numbered =
-      if is_told kinds numbered.0 then kind_text (numbered.0 + 1) numbered.1 else []
+  abbrev pub numbered_text : Telling → List ChainKind → (number : ℕ) → List ℕ
+  numbered_text telling kinds number =
+      if is_told telling kinds number then kind_text telling (number + 1) (kind_at kinds number) else []
 
-  abbrev pub told_text : List ChainKind → List ℕ
-  told_text kinds = flat_map (numbered_text kinds) (enumerate_from 0 kinds)
+  abbrev pub told_text : Telling → List ChainKind → List ℕ
+  told_text telling kinds = flat_map (numbered_text telling kinds) (numbers_below (length kinds))
 
 -- what is meant by an AMO that counts as a load, or as a store, where one does
-abbrev pub halves_told : Test → List ChainKind → ℕ → Bool
-halves_told t kinds number =
-    nat_lt number (length kinds) && (is_told kinds number && list_any (halves_amo t) (told_chains (kind_at kinds number)))
+abbrev pub halves_there : Test → Option Chain → Bool
+halves_there t None = false
+halves_there t (Some chain) = halves_amo t chain
 
-abbrev pub amo_text : Test → List ChainKind → List ℕ
-amo_text t kinds =
-    if list_any (halves_told t kinds) (numbers_below (length kinds))
+abbrev pub halves_told : Test → Telling → List ChainKind → ℕ → Bool
+halves_told t telling kinds number =
+    nat_lt number (length kinds)
+    && (is_told telling kinds number && halves_there t (told_chain telling (kind_at kinds number)))
+
+abbrev pub amo_text : Test → Telling → List ChainKind → List ℕ
+amo_text t telling kinds =
+    if list_any (halves_told t telling kinds) (numbers_below (length kinds))
     then codes "\nAn AMO is one operation that loads and stores at once: what orders either half orders all of it.\n"
     else []
-
--- ---- those that aren't told
-
-abbrev pub is_untold : List ChainKind → ℕ → Bool
-is_untold kinds number = not (is_told kinds number)
-
-abbrev pub is_bare : List ChainKind → ℕ → Bool
-is_bare kinds number = nat_lt number (length kinds) && (not (is_told kinds number) && not (has_fence (kind_at kinds number)))
-
-abbrev pub kinds_text : ℕ → List ℕ
-kinds_text count = decimal count ++ (if count == 1 then codes " kind more" else codes " kinds more")
-
-abbrev pub bare_text : ℕ → List ℕ
-bare_text count = if count == 0 then [] else codes ", " ++ (decimal count ++ codes " of them without a fence")
-
-abbrev pub rest_by : (untold bare : ℕ) → List ℕ
-rest_by untold bare =
-    if untold == 0 then [] else codes "\nand " ++ (kinds_text untold ++ (bare_text bare ++ codes "\n"))
-
-abbrev pub rest_text : List ChainKind → List ℕ
-rest_text kinds =
-    rest_by (count_by (is_untold kinds) (numbers_below (length kinds))) (count_by (is_bare kinds) (numbers_below (length kinds)))
 
 -- ---- all of it
 
@@ -221,50 +164,9 @@ heading_of count =
     if count == 1 then codes "\nEach way to the outcome has this contradiction, in which each\n"
     else codes "\nEach way to the outcome has one of these contradictions, in which each\n"
 
-abbrev pub contradictions_text : Test → (lines : List (List ℕ)) → List ChainKind → List ℕ
-contradictions_text t lines kinds =
+abbrev pub contradictions_text : Test → (lines : List (List ℕ)) → Telling → List ChainKind → List ℕ
+contradictions_text t lines telling kinds =
     if length kinds == 0 then nothing_left
     else heading_of (length kinds)
     ++ (codes "operation is in memory before the next one, and the last before the first.\n"
-    ++ (told_text t lines kinds ++ (rest_text kinds ++ amo_text t kinds)))
-
--- ---- in which of them a fence is needed: where it alone orders two operations in all runs that are left
-
-abbrev pub is_sole_in : (key : ℕ) → Chain → Bool
-is_sole_in key chain = list_any (λ link. is_same (option_map fence_key link.sole) (Some key)) chain.links
-
-abbrev pub is_sole : (key : ℕ) → ChainKind → Bool
-is_sole key kind = list_any (is_sole_in key) kind.instances
-
-module _ (kinds : List ChainKind) (key : ℕ) where
-  abbrev pub number_if : ℕ × ChainKind → List (List ℕ)
-  number_if numbered =
-      if is_told kinds numbered.0 && is_sole key numbered.1 then decimal (numbered.0 + 1) ∷ [] else []
-
-  -- the numbers of those that are told
-  abbrev pub numbers_with : List (List ℕ)
-  numbers_with = flat_map number_if (enumerate_from 0 kinds)
-
-  -- one of those that aren't
-  abbrev pub is_more : ℕ → Bool
-  is_more number = nat_lt number (length kinds) && (not (is_told kinds number) && is_sole key (kind_at kinds number))
-
-  abbrev pub count_more : ℕ
-  count_more = count_by is_more (numbers_below (length kinds))
-
-abbrev pub cycles_piece : List (List ℕ) → List (List ℕ)
-cycles_piece numbers =
-    if length numbers == 0 then []
-    else ((if length numbers == 1 then codes "cycle " else codes "cycles ") ++ and_joined numbers) ∷ []
-
-abbrev pub more_piece : ℕ → List (List ℕ)
-more_piece count =
-    if count == 0 then []
-    else (decimal count ++ (if count == 1 then codes " more kind" else codes " more kinds")) ∷ []
-
-abbrev pub joined_pieces : List (List ℕ) → List ℕ
-joined_pieces pieces = if length pieces == 0 then [] else codes ": in " ++ and_joined pieces
-
--- behind the name of the fence of this number
-abbrev pub in_text : List ChainKind → (key : ℕ) → List ℕ
-in_text kinds key = joined_pieces (cycles_piece (numbers_with kinds key) ++ more_piece (count_more kinds key))
+    ++ (told_text t lines telling kinds ++ (rest_text telling kinds ++ amo_text t telling kinds)))

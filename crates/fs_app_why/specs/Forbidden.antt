@@ -9,6 +9,7 @@ use Rattle.fs_cert_evidence.specs.Trees.{AreItsRuns, roots}
 use Rattle.fs_region_ends.specs.Chains.{chains_of}
 use Rattle.fs_region_ends.specs.Ends.{ends}
 use Rattle.fs_region_ends.specs.Kinds.{ChainKind, kinds_of}
+use Rattle.fs_app_why_kinds.specs.declared.told.Telling.{Telling}
 use Rattle.fs_app_why.specs.Contradictions.{contradictions_text}
 
 -- the instructions in print, hart by hart
@@ -23,6 +24,6 @@ AreKinds t p (Inferred inferences) kinds =
     × (kinds ≡ kinds_of (texts_of t) (chains_of t p (ends t (roots t runs) inferences)))
 
 -- a list of cycles isn't told
-abbrev pub cycles_text : Test → (lines : List (List ℕ)) → Cycles → List ChainKind → List ℕ
-cycles_text t lines (Listed cycles) kinds = []
-cycles_text t lines (Inferred inferences) kinds = contradictions_text t lines kinds
+abbrev pub cycles_text : Test → (lines : List (List ℕ)) → Telling → Cycles → List ChainKind → List ℕ
+cycles_text t lines telling (Listed cycles) kinds = []
+cycles_text t lines telling (Inferred inferences) kinds = contradictions_text t lines telling kinds

@@ -19,29 +19,12 @@ use Rattle.fs_model.specs.Printed.{name_of as location_name, value_text}
 use Rattle.fs_model.specs.Shows.{final_register, final_word}
 use Rattle.fs_model.specs.Source.{source_in}
 use Rattle.fs_model.specs.Witness.{name_of}
+use Rattle.fs_app_why_kinds.specs.Words.{and_joined, line_of}
+use Rattle.fs_app_why_told.specs.declared.told.Told.{Told}
+use Rattle.fs_app_why_told.specs.Executions.{name_at, operation_at, source_at, told_of}
 use Rattle.fs_app_why.specs.declared.table.Row.{Row}
-use Rattle.fs_app_why.specs.declared.told.Told.{Told}
 use Rattle.fs_app_why.specs.Tables.{table_text}
-use Rattle.fs_app_why.specs.Words.{and_joined, line_of, place_text, word_text}
-
--- what is told of an execution: its operations, and of each the name and the source, by their numbers; and the order
--- of the harts' own
-abbrev pub told_of : PreExecution → List ℕ → Told
-told_of x order = record {
-  operations = operations x;
-  names = map (name_of x) (numbers_below (length (operations x)));
-  sources = map (source_in x order) (numbers_below (length (operations x)));
-  order = order;
-}
-
-abbrev pub operation_at : Told → ℕ → Operation
-operation_at told a = slice_index_or told.operations a nothing
-
-abbrev pub name_at : Told → ℕ → Option Name
-name_at told a = slice_index_or told.names a None
-
-abbrev pub source_at : Told → ℕ → Option ℕ
-source_at told a = slice_index_or told.sources a None
+use Rattle.fs_app_why.specs.Words.{place_text, word_text}
 
 -- ---- which operations stand in the order the other way round than in their hart's code
 

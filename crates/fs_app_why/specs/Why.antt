@@ -1,14 +1,17 @@
 -- What `--why` prints below an answer, and the fault that it answers.
-use Rattle.std.specs.Prelude.{◌≡◌, ◌⊎◌, ℕ, List, [], ◌∷◌, ◌++◌, length, Option, None, Some, codes, slice_get}
+use Rattle.std.specs.Prelude.{◌≡◌, ◌⊎◌, ℕ, ◌==◌, Bool, true, false, ◌&&◌, not, List, [], ◌∷◌, ◌++◌, length, Option, None, Some, codes, slice_get}
+use Rattle.std.specs.Prelude.{if◌then◌else◌}
 use Rattle.std.specs.Fmt.{decimal}
 use Rattle.std.specs.List.{Contains, slice_index_or}
+use Rattle.fs_instr.specs.declared.instr.Instr.{Instr}
 use Rattle.fs_kinds.specs.declared.fault.Fault.{Fault}
 use Rattle.fs_kinds.specs.declared.fault.Fault.TheVariants.{BadCertificate, BadFence, Memory}
 use Rattle.fs_kinds.specs.declared.kind.Kind.{Kind}
 use Rattle.fs_kinds.specs.declared.placement.Entry.{Entry}
 use Rattle.fs_kinds.specs.declared.slot.Slot.{Slot}
 use Rattle.fs_kinds.specs.Kind.{word}
-use Rattle.fs_kinds.specs.Placement.{with_kind}
+use Rattle.fs_kinds.specs.Placement.{kind_at, with_kind}
+use Rattle.fs_kinds.specs.ReasonText.{operation_name}
 use Rattle.fs_kinds.specs.Slot.{slot_name}
 use Rattle.fs_model.specs.declared.test.Test.{Test}
 use Rattle.fs_model.specs.Allows.{Allows, no_fences, full_fences}
@@ -27,13 +30,17 @@ use Rattle.fs_cert_evidence.specs.Shown.{ShowsAs, IsShownBy}
 use Rattle.fs_cert_evidence.specs.Valid.{Forbid}
 use Rattle.fs_cert_evidence.specs.WitnessFile.{IsWitnessFile}
 use Rattle.fs_region_ends.specs.declared.fences.Fence.TheVariants.{Placed}
+use Rattle.fs_region_ends.specs.Fences.{is_fence}
 use Rattle.fs_region_ends.specs.Kinds.{ChainKind}
 use Rattle.fs_app_place_order.specs.Place.{IsBadFences}
-use Rattle.fs_app_why.specs.Contradictions.{fence_key, in_text}
+use Rattle.fs_app_why_kinds.specs.declared.told.Telling.{Telling}
+use Rattle.fs_app_why_kinds.specs.declared.told.Telling.TheVariants.{One}
+use Rattle.fs_app_why_kinds.specs.Counted.{in_text}
+use Rattle.fs_app_why_kinds.specs.Told.{fence_key}
+use Rattle.fs_app_why_kinds.specs.Words.{instr_named, line_of, text_of_instr}
+use Rattle.fs_app_why_nearer.specs.Reordered.{IsFirstShown, IsToldOf}
 use Rattle.fs_app_why.specs.Forbidden.{AreKinds, cycles_text}
-use Rattle.fs_app_why.specs.Reordered.{IsFirstShown, IsToldOf}
 use Rattle.fs_app_why.specs.Traces.{trace_text}
-use Rattle.fs_app_why.specs.Words.{line_of, text_of_instr}
 
 -- ---- of a witness to which `order` says yes, the execution that it gives
 
@@ -90,21 +97,41 @@ IsNoneWhy = IsExecutionTold full_fences none_heading
 
 -- ---- of a test whose outcome is forbidden, why it is
 
+-- this line alone where the fence is lacking that is asked for; else this is so of the text
+abbrev pub TellsUnless : (is_lacking : Bool) → (line : List ℕ) → (List ℕ → Type 0) → (text : List ℕ) → Type 0
+TellsUnless true line P text = text ≡ line
+TellsUnless false line P text = P text
+
 -- with these fences: the contradictions of what shows it. Which of several this is, is left open.
-pub record TellsForbidden (t : Test) (lines : List (List ℕ)) (p : List Entry) (text : List ℕ) : Type 0 where
+pub record TellsForbidden (t : Test) (lines : List (List ℕ)) (telling : Telling) (p : List Entry) (text : List ℕ) : Type 0 where
   pub cycles : Cycles
   pub kinds : List ChainKind
   pub shows : Forbid t p cycles
   pub are_kinds : AreKinds t p cycles kinds
-  pub told : text ≡ cycles_text t lines cycles kinds
+  pub told : text ≡ cycles_text t lines telling cycles kinds
+
+abbrev pub is_written : Option Instr → Bool
+is_written None = false
+is_written (Some instr) = is_fence instr
+
+-- the instruction that is asked for is no FENCE
+abbrev pub lacks_written : Telling → Test → Bool
+lacks_written (One hart at) t = not (is_written (instr_named t (record { hart = hart; at = at })))
+lacks_written telling t = false
+
+abbrev pub unwritten_text : Telling → List ℕ
+unwritten_text (One hart at) =
+    codes "\nno fence stands at " ++ (operation_name (record { hart = hart; at = at }) ++ codes "\n")
+unwritten_text telling = []
 
 -- as it is written
-pub record IsForbiddenWhy (test text : List ℕ) : Type 0 where
+pub record IsForbiddenWhy (telling : Telling) (test text : List ℕ) : Type 0 where
   pub the_test : Test
   pub lines : List (List ℕ)
   pub reads : Reads test the_test
   pub stand : StandIn test lines
-  pub tells : TellsForbidden the_test lines (no_fences the_test) text
+  pub tells : TellsUnless (lacks_written telling the_test) (unwritten_text telling)
+      (TellsForbidden the_test lines telling (no_fences the_test)) text
 
 -- as it is written some execution shows it
 abbrev pub IsAllowed : (test : List ℕ) → Type 0
@@ -126,14 +153,23 @@ named_text t lines slot kind =
     ++ (decimal (line_of lines (record { hart = slot.hart; at = slot.at })) ++ (codes ", " ++ (instr_at t slot ++ codes ")")))))))
 
 -- the fence, and which of these kinds of contradictions it is in
-abbrev pub fence_line : Test → (lines : List (List ℕ)) → List ChainKind → Slot → Kind → List ℕ
-fence_line t lines kinds slot kind =
-    named_text t lines slot kind ++ (in_text kinds (fence_key (Placed slot kind)) ++ codes "\n")
+abbrev pub fence_line : Test → (lines : List (List ℕ)) → Telling → List ChainKind → Slot → Kind → List ℕ
+fence_line t lines telling kinds slot kind =
+    named_text t lines slot kind ++ (in_text telling kinds (fence_key (Placed slot kind)) ++ codes "\n")
 
 -- of a slot without a fence nothing
-abbrev pub head_text : Test → (lines : List (List ℕ)) → List ChainKind → Slot → Option Kind → List ℕ
-head_text t lines kinds slot None = []
-head_text t lines kinds slot (Some kind) = fence_line t lines kinds slot kind
+abbrev pub head_text : Test → (lines : List (List ℕ)) → Telling → List ChainKind → Slot → Option Kind → List ℕ
+head_text t lines telling kinds slot None = []
+head_text t lines telling kinds slot (Some kind) = fence_line t lines telling kinds slot kind
+
+-- a slot that isn't asked for is as one without a fence
+abbrev pub is_passed : Telling → Slot → Bool
+is_passed (One hart at) slot = not ((slot.hart == hart) && (slot.at == at))
+is_passed telling slot = false
+
+abbrev pub asked : Telling → Entry → Entry
+asked telling entry =
+    record { slot = entry.slot; kind = if is_passed telling entry.slot then None else entry.kind }
 
 abbrev pub without_heading : List ℕ
 without_heading = codes "Without it, in the order of memory:\n"
@@ -142,7 +178,7 @@ without_heading = codes "Without it, in the order of memory:\n"
 abbrev pub NoWitnessShows : Test → List Witness → List Entry → Type 0
 NoWitnessShows t ws p = (w : Witness) → Contains ws w → IsShownBy t p w → ⊥
 
-module _ (t : Test) (lines : List (List ℕ)) (kinds : List ChainKind) (ws : List Witness) (IsUntold : List Entry → Type 0) (p : List Entry) where
+module _ (t : Test) (lines : List (List ℕ)) (ws : List Witness) (IsUntold : List Entry → Type 0) (p : List Entry) where
   -- an execution of the first witness that shows the outcome without the fence in this slot; or nothing
   abbrev pub TellsFirst : Slot → (text : List ℕ) → Type 0
   TellsFirst slot text =
@@ -155,44 +191,65 @@ module _ (t : Test) (lines : List (List ℕ)) (kinds : List ChainKind) (ws : Lis
   TellsWithout slot None text = text ≡ []
   TellsWithout slot (Some kind) text = TellsFirst slot text
 
+module _ (t : Test) (lines : List (List ℕ)) (telling : Telling) (kinds : List ChainKind) (ws : List Witness) (IsUntold : List Entry → Type 0) (p : List Entry) where
   abbrev pub TellsEntry : Entry → (text : List ℕ) → Type 0
   TellsEntry entry text =
-      (without : List ℕ) × TellsWithout entry.slot entry.kind without
-      × (text ≡ head_text t lines kinds entry.slot entry.kind ++ without)
+      (without : List ℕ) × TellsWithout t lines ws IsUntold p entry.slot entry.kind without
+      × (text ≡ head_text t lines telling kinds entry.slot entry.kind ++ without)
 
-  -- of these slots, in their order
+  -- of those of these slots that are asked for, in their order
   abbrev pub TellsFences : List Entry → (text : List ℕ) → Type 0
   TellsFences [] text = text ≡ []
   TellsFences (entry ∷ entries) text =
-      (told : List ℕ) × (others : List ℕ) × TellsEntry entry told × TellsFences entries others × (text ≡ told ++ others)
+      (told : List ℕ) × (others : List ℕ) × TellsEntry (asked telling entry) told × TellsFences entries others
+      × (text ≡ told ++ others)
 
--- The words name fences in the test's slots. First why these rule the outcome out; then of each an execution without
--- it, and its line alone only where none of the witnesses gives one.
-pub record TellsAllFences (test : List ℕ) (words : List (List ℕ)) (cycles : Cycles) (ws : List Witness) (text : List ℕ) : Type 0 where
+-- in the slot that is asked for there is no fence
+abbrev pub is_bare : Option Kind → Bool
+is_bare None = true
+is_bare (Some kind) = false
+
+abbrev pub lacks_placed : Telling → List Entry → Bool
+lacks_placed (One hart at) p = is_bare (kind_at (record { hart = hart; at = at }) p)
+lacks_placed telling p = false
+
+abbrev pub unplaced_text : Telling → List ℕ
+unplaced_text (One hart at) =
+    codes "\nno fence stands before " ++ (operation_name (record { hart = hart; at = at }) ++ codes "\n")
+unplaced_text telling = []
+
+-- first why these fences rule the outcome out; then of each an execution without it, and its line alone only where none
+-- of the witnesses gives one
+pub record TellsPlaced (t : Test) (lines : List (List ℕ)) (telling : Telling) (p : List Entry) (cycles : Cycles) (ws : List Witness) (text : List ℕ) : Type 0 where
+  pub kinds : List ChainKind
+  pub fences : List ℕ
+  pub are_kinds : AreKinds t p cycles kinds
+  pub tells : TellsFences t lines telling kinds ws (NoWitnessShows t ws) p p fences
+  pub told : text ≡ cycles_text t lines telling cycles kinds ++ fences
+
+-- the words name fences in the test's slots
+pub record TellsAllFences (telling : Telling) (test : List ℕ) (words : List (List ℕ)) (cycles : Cycles) (ws : List Witness) (text : List ℕ) : Type 0 where
   pub the_test : Test
   pub lines : List (List ℕ)
   pub placement : List Entry
-  pub kinds : List ChainKind
-  pub fences : List ℕ
   pub reads : Reads test the_test
   pub stand : StandIn test lines
   pub placed : IsPlaced None (slots the_test) words (Some placement)
-  pub are_kinds : AreKinds the_test placement cycles kinds
-  pub tells : TellsFences the_test lines kinds ws (NoWitnessShows the_test ws) placement placement fences
-  pub told : text ≡ cycles_text the_test lines cycles kinds ++ fences
+  pub tells : TellsUnless (lacks_placed telling placement) (unplaced_text telling)
+      (TellsPlaced the_test lines telling placement cycles ws) text
 
 -- ---- of an answer that a certificate says
 
--- of `none` an execution, where the first witness gives one
-abbrev pub TellsAnswer : (test : List ℕ) → Answer → Cycles → List Witness → (text : List ℕ) → Type 0
-TellsAnswer test (Fenced cost fences) cycles witnesses text = TellsAllFences test fences cycles witnesses text
-TellsAnswer test NoneForbids cycles [] text = text ≡ []
-TellsAnswer test NoneForbids cycles (w ∷ ws) text = IsNoneWhy test w text ⊎ (IsNotShown full_fences test w × (text ≡ []))
+-- of `none` an execution, where the first witness gives one, whatever is asked for
+abbrev pub TellsAnswer : Telling → (test : List ℕ) → Answer → Cycles → List Witness → (text : List ℕ) → Type 0
+TellsAnswer telling test (Fenced cost fences) cycles witnesses text = TellsAllFences telling test fences cycles witnesses text
+TellsAnswer telling test NoneForbids cycles [] text = text ≡ []
+TellsAnswer telling test NoneForbids cycles (w ∷ ws) text = IsNoneWhy test w text ⊎ (IsNotShown full_fences test w × (text ≡ []))
 
-pub record IsCertifiedWhy (test certificate text : List ℕ) : Type 0 where
+pub record IsCertifiedWhy (telling : Telling) (test certificate text : List ℕ) : Type 0 where
   pub said : Certificate
   pub file : IsCertificateFile certificate said
-  pub tells : TellsAnswer test said.answer said.cycles said.witnesses text
+  pub tells : TellsAnswer telling test said.answer said.cycles said.witnesses text
 
 -- the words of the answer's fences don't fit the test
 abbrev pub IsBadAnswer : (test : List ℕ) → Answer → Type 0

@@ -1,40 +1,33 @@
 //! Why an outcome is ruled out: the kinds of contradictions of a refutation, in print.
 
-ghost use Rattle.std.specs.Prelude.{◌≡◌, ◌≤◌, ◌<◌, ◌++◌, ◌==◌, codes, count_by, decimal, length, IfOk, OnOk};
-ghost use Rattle.std.specs.Prelude.{false, map, option_map, Some, true, if◌then◌else◌, string_bytes};
-ghost use Rattle.std.specs.List.{enumerate_from, list_any};
+ghost use Rattle.std.specs.Prelude.{◌≡◌, ◌≤◌, ◌<◌, ◌++◌, ◌==◌, codes, length, IfOk, map, if◌then◌else◌};
+ghost use Rattle.std.specs.Prelude.{false, string_bytes, true};
+ghost use Rattle.std.specs.List.{list_any};
 ghost use Rattle.fs_kinds.specs.Limits.{most_locations};
 ghost use Rattle.fs_kinds.specs.ReasonText.{operation_name};
-ghost use Rattle.fs_model.specs.Numbers.{is_same, numbers_below};
+ghost use Rattle.fs_model.specs.Numbers.{numbers_below};
 ghost use Rattle.fs_model.specs.Forms.{is_loading, is_storing};
-ghost use Rattle.fs_app_why.specs.Arrows.{instr_named};
-ghost use Rattle.fs_app_why.specs.Contradictions.{again, also_text, amo_text, bare_text, below_by, chain_text};
-ghost use Rattle.fs_app_why.specs.Contradictions.{contradictions_text, count_more, cycles_piece, does_by, does_known};
-ghost use Rattle.fs_app_why.specs.Contradictions.{does_there, end_text, in_text, is_more, is_sole, is_sole_in};
-ghost use Rattle.fs_app_why.specs.Contradictions.{joined_pieces, more_piece, number_if, numbers_with};
-ghost use Rattle.fs_app_why.specs.Contradictions.{fence_key, halves_amo, halves_by, halves_told, has_fence, has_key};
-ghost use Rattle.fs_app_why.specs.Contradictions.{has_new, headed, heading_of, initial_text, is_bare};
-ghost use Rattle.fs_app_why.specs.Contradictions.{is_key_among, is_new_by, is_text, is_told, is_told_after};
-ghost use Rattle.fs_app_why.specs.Contradictions.{is_untold, kind_text, kinds_text, link_row};
-ghost use Rattle.fs_app_why.specs.Contradictions.{loaded_text, numbered_text, others_text};
-ghost use Rattle.fs_app_why.specs.Contradictions.{rest_by, rest_text, shape_text, told_chains, told_text};
-ghost use Rattle.fs_app_why.specs.Tables.{table_text};
-ghost use Rattle.fs_app_why.specs.Words.{line_of, text_of_instr};
+ghost use Rattle.fs_app_why_kinds.specs.Told.{told_chain};
+ghost use Rattle.fs_app_why_kinds.specs.Words.{instr_named, text_of_instr};
+ghost use Rattle.fs_app_why.specs.Contradictions.{again, also_text, amo_text, below_by, chain_text};
+ghost use Rattle.fs_app_why.specs.Contradictions.{contradictions_text, does_by, does_known, does_there, end_text};
+ghost use Rattle.fs_app_why.specs.Contradictions.{halves_amo, halves_by, halves_there, halves_told, headed};
+ghost use Rattle.fs_app_why.specs.Contradictions.{heading_of, initial_text, is_text, kind_text, link_row};
+ghost use Rattle.fs_app_why.specs.Contradictions.{loaded_text, numbered_text, others_text, shape_text, told_text};
 
-use crate::arrows::{arrow_text, counts_before, counts_behind, if_amo, instr_named};
 use crate::rows::{line_cell, name_cell};
 use crate::table::{Row, table_text};
-use crate::without::instr_text;
-use crate::words::{and_joined, word_text};
+use crate::words::word_text;
 use fs_app_test::value_text;
+use fs_app_why_kinds::{
+    Telling, arrow_text, counts_before, counts_behind, if_amo, instr_named, instr_text, is_told,
+    rest_text, told_place,
+};
 use fs_instr::Instr;
-use fs_kinds::{List, OperationName};
+use fs_kinds::List;
 use fs_model::{Location, Name, Test};
 use fs_region_ends::{Arrow, Chain, ChainKind, ChainLink, Fence, Known, Shape, told_links};
 use std::alloc::{AllocError, Global};
-
-/// Up to so many kinds are all told.
-const FEW_KINDS: usize = 6;
 
 // ---- what an operation does, as far as all runs that are left agree
 
@@ -288,90 +281,6 @@ fn chain_text(
     Ok(text)
 }
 
-// ---- which kinds are told
-
-/// A number for the fence: its hart's, its place, and whether it is placed or written there.
-pub(crate) fn fence_key(fence: Fence) -> u32
-    ensures { result ≡ fence_key fence }
-{
-    match fence {
-        Fence::Placed { slot, .. } => u32::from(slot.hart) * 1024 + u32::from(slot.at) * 2,
-        Fence::Written { hart, at, .. } => u32::from(hart) * 1024 + (u32::from(at) * 2 + 1),
-    }
-}
-
-fn is_key(fence: Option<Fence>, key: u32) -> bool
-    ensures { result ≡ is_same (option_map fence_key fence) (Some key) }
-{
-    match fence {
-        Some(fence) => fence_key(fence) == key,
-        None => false,
-    }
-}
-
-fn has_key(chain: &Chain, key: u32) -> bool
-    ensures { result ≡ has_key key chain.now }
-{
-    chain.links.iter().any(|link| is_key(link.fence, key))
-}
-
-/// The chain of a kind that is told.
-fn told_chains(kind: &ChainKind) -> &[Chain]
-    ensures { result.now ≡ told_chains kind.now }
-{
-    let count = kind.instances.len().min(1);
-    &kind.instances[..count]
-}
-
-fn tells_key(kind: &ChainKind, key: u32) -> bool
-    ensures { result ≡ list_any (has_key key) (told_chains kind.now) }
-{
-    told_chains(kind).iter().any(|chain| has_key(chain, key))
-}
-
-fn is_key_among(kinds: &[ChainKind], key: u32) -> bool
-    ensures { result ≡ is_key_among key kinds.now }
-{
-    kinds.iter().any(|kind| tells_key(kind, key))
-}
-
-/// Is there a fence that none of these kinds has?
-fn is_new_by(kinds: &[ChainKind], fence: Option<Fence>) -> bool
-    ensures { result ≡ is_new_by kinds.now fence }
-{
-    match fence {
-        Some(fence) => !is_key_among(kinds, fence_key(fence)),
-        None => false,
-    }
-}
-
-fn has_new(kinds: &[ChainKind], chain: &Chain) -> bool
-    ensures { result ≡ has_new kinds.now chain.now }
-{
-    chain.links.iter().any(|link| is_new_by(kinds, link.fence))
-}
-
-/// Has the kind a fence that none of these has?
-fn is_told_after(before: &[ChainKind], kind: &ChainKind) -> bool
-    ensures { result ≡ is_told_after before.now kind.now }
-{
-    told_chains(kind).iter().any(|chain| has_new(before, chain))
-}
-
-/// Is the kind of this number, from 0, told?
-fn is_told(kinds: &[ChainKind], number: usize) -> bool
-    ensures { result ≡ is_told kinds.now number }
-{
-    number < kinds.len()
-        && (kinds.len() <= FEW_KINDS || is_told_after(&kinds[..number], &kinds[number]))
-}
-
-fn has_fence(kind: &ChainKind) -> bool
-    ensures { result ≡ has_fence kind.now }
-{
-    is_told_after(&[], kind)
-}
-
 // ---- kinds in print
 
 fn shape_text(shape: Shape) -> &'static str
@@ -421,13 +330,14 @@ fn kind_text(
     alloc: Global,
     test: &Test,
     lines: &[List<usize>],
+    telling: Telling,
     number: usize,
     kind: &ChainKind,
 ) -> Result<String, AllocError>
     requires { length test.now.locations ≤ most_locations }
-    ensures { IfOk result (λ text. string_bytes text ≡ kind_text test.now lines.now number kind.now) }
+    ensures { IfOk result (λ text. string_bytes text ≡ kind_text test.now lines.now telling number kind.now) }
 {
-    match kind.instances.first() {
+    match kind.instances.get(told_place(telling, kind)) {
         Some(chain) => headed(alloc, test, lines, number, kind.instances.len(), chain),
         None => Ok(String::new(alloc)),
     }
@@ -438,17 +348,17 @@ fn numbered_text(
     alloc: Global,
     test: &Test,
     lines: &[List<usize>],
+    telling: Telling,
     kinds: &[ChainKind],
     number: usize,
-    kind: &ChainKind,
 ) -> Result<String, AllocError>
     requires locations { length test.now.locations ≤ most_locations }
     requires number { number < length kinds.now }
     ensures { IfOk result (λ text. string_bytes text
-        ≡ numbered_text test.now lines.now kinds.now (number, kind.now)) }
+        ≡ numbered_text test.now lines.now telling kinds.now number) }
 {
-    if is_told(kinds, number) {
-        kind_text(alloc, test, lines, number + 1, kind)
+    if is_told(telling, kinds, number) {
+        kind_text(alloc, test, lines, telling, number + 1, &kinds[number])
     } else {
         Ok(String::new(alloc))
     }
@@ -459,14 +369,15 @@ fn told_text(
     alloc: Global,
     test: &Test,
     lines: &[List<usize>],
+    telling: Telling,
     kinds: &[ChainKind],
 ) -> Result<String, AllocError>
     requires { length test.now.locations ≤ most_locations }
-    ensures { IfOk result (λ text. string_bytes text ≡ told_text test.now lines.now kinds.now) }
+    ensures { IfOk result (λ text. string_bytes text ≡ told_text test.now lines.now telling kinds.now) }
 {
     let mut text = String::new(alloc);
-    for (number, kind) in kinds.iter().enumerate() {
-        let told = numbered_text(alloc, test, lines, kinds, number, kind)?;
+    for number in 0..kinds.len() {
+        let told = numbered_text(alloc, test, lines, telling, kinds, number)?;
         text.push_str(told.as_str())?;
     }
     Ok(text)
@@ -496,95 +407,38 @@ fn halves_amo(test: &Test, chain: &Chain) -> bool
         .any(|link| halves_by(test, link, link.fence))
 }
 
-fn kind_halves_amo(test: &Test, kind: &ChainKind) -> bool
-    ensures { result ≡ list_any (halves_amo test.now) (told_chains kind.now) }
+/// Does it in the chain of the kind that is told?
+fn halves_there(test: &Test, telling: Telling, kind: &ChainKind) -> bool
+    ensures { result ≡ halves_there test.now (told_chain telling kind.now) }
 {
-    told_chains(kind)
-        .iter()
-        .any(|chain| halves_amo(test, chain))
+    match kind.instances.get(told_place(telling, kind)) {
+        Some(chain) => halves_amo(test, chain),
+        None => false,
+    }
 }
 
-fn halves_told(test: &Test, kinds: &[ChainKind], number: usize) -> bool
-    ensures { result ≡ halves_told test.now kinds.now number }
+fn halves_told(test: &Test, telling: Telling, kinds: &[ChainKind], number: usize) -> bool
+    ensures { result ≡ halves_told test.now telling kinds.now number }
 {
-    number < kinds.len() && (is_told(kinds, number) && kind_halves_amo(test, &kinds[number]))
+    number < kinds.len()
+        && (is_told(telling, kinds, number) && halves_there(test, telling, &kinds[number]))
 }
 
-fn some_halved(test: &Test, kinds: &[ChainKind]) -> bool
-    ensures { result ≡ list_any (halves_told test.now kinds.now) (numbers_below (length kinds.now)) }
+fn some_halved(test: &Test, telling: Telling, kinds: &[ChainKind]) -> bool
+    ensures { result ≡ list_any (halves_told test.now telling kinds.now) (numbers_below (length kinds.now)) }
 {
-    (0..kinds.len()).any(|number| halves_told(test, kinds, number))
+    (0..kinds.len()).any(|number| halves_told(test, telling, kinds, number))
 }
 
 /// What is meant by an AMO that counts as a load, or as a store, where one does.
-fn amo_text(test: &Test, kinds: &[ChainKind]) -> &'static str
-    ensures { result.now ≡ amo_text test.now kinds.now }
+fn amo_text(test: &Test, telling: Telling, kinds: &[ChainKind]) -> &'static str
+    ensures { result.now ≡ amo_text test.now telling kinds.now }
 {
-    if some_halved(test, kinds) {
+    if some_halved(test, telling, kinds) {
         "\nAn AMO is one operation that loads and stores at once: what orders either half orders all of it.\n"
     } else {
         ""
     }
-}
-
-fn is_untold(kinds: &[ChainKind], number: usize) -> bool
-    ensures { result ≡ is_untold kinds.now number }
-{
-    !is_told(kinds, number)
-}
-
-fn count_untold(kinds: &[ChainKind]) -> usize
-    ensures { result ≡ count_by (is_untold kinds.now) (numbers_below (length kinds.now)) }
-{
-    (0..kinds.len())
-        .filter(|number| is_untold(kinds, *number))
-        .count()
-}
-
-fn is_bare(kinds: &[ChainKind], number: usize) -> bool
-    ensures { result ≡ is_bare kinds.now number }
-{
-    number < kinds.len() && (!is_told(kinds, number) && !has_fence(&kinds[number]))
-}
-
-fn count_bare(kinds: &[ChainKind]) -> usize
-    ensures { result ≡ count_by (is_bare kinds.now) (numbers_below (length kinds.now)) }
-{
-    (0..kinds.len())
-        .filter(|number| is_bare(kinds, *number))
-        .count()
-}
-
-fn kinds_text(alloc: Global, count: usize) -> Result<String, AllocError>
-    ensures { IfOk result (λ text. string_bytes text ≡ kinds_text count) }
-{
-    if count == 1 {
-        format!(in alloc; "{} kind more", count)
-    } else {
-        format!(in alloc; "{} kinds more", count)
-    }
-}
-
-fn bare_text(alloc: Global, count: usize) -> Result<String, AllocError>
-    ensures { IfOk result (λ text. string_bytes text ≡ bare_text count) }
-{
-    if count == 0 {
-        return Ok(String::new(alloc));
-    }
-    format!(in alloc; ", {} of them without a fence", count)
-}
-
-/// The line of the kinds that aren't told, if there are any.
-fn rest_text(alloc: Global, kinds: &[ChainKind]) -> Result<String, AllocError>
-    ensures { IfOk result (λ text. string_bytes text ≡ rest_text kinds.now) }
-{
-    let untold = count_untold(kinds);
-    if untold == 0 {
-        return Ok(String::new(alloc));
-    }
-    let more = kinds_text(alloc, untold)?;
-    let bare = bare_text(alloc, count_bare(kinds))?;
-    format!(in alloc; "\nand {}{}\n", more.as_str(), bare.as_str())
 }
 
 /// The first line of the heading.
@@ -598,148 +452,31 @@ fn heading_of(count: usize) -> &'static str
     }
 }
 
-/// The kinds of contradictions in print: all where they are few, else those with a fence that none before them has, and
-/// how many there are besides. The square of the kinds, times that of the fences in each.
+/// The kinds of contradictions in print: those that are told, and how many there are besides. The square of the kinds,
+/// times that of the fences in each.
 pub(crate) fn contradictions_text(
     alloc: Global,
     test: &Test,
     lines: &[List<usize>],
+    telling: Telling,
     kinds: &[ChainKind],
 ) -> Result<String, AllocError>
     requires { length test.now.locations ≤ most_locations }
-    ensures { IfOk result (λ text. string_bytes text ≡ contradictions_text test.now lines.now kinds.now) }
+    ensures { IfOk result (λ text.
+        string_bytes text ≡ contradictions_text test.now lines.now telling kinds.now) }
 {
     if kinds.is_empty() {
         return format!(in alloc;
             "\nNo way to the outcome is left once its values are looked at: no order of memory is needed.\n"
         );
     }
-    let told = told_text(alloc, test, lines, kinds)?;
-    let rest = rest_text(alloc, kinds)?;
+    let told = told_text(alloc, test, lines, telling, kinds)?;
+    let rest = rest_text(alloc, telling, kinds)?;
     format!(in alloc;
         "{}operation is in memory before the next one, and the last before the first.\n{}{}{}",
         heading_of(kinds.len()),
         told.as_str(),
         rest.as_str(),
-        amo_text(test, kinds)
+        amo_text(test, telling, kinds)
     )
-}
-
-// ---- in which of them a fence is needed
-
-fn is_sole_in(chain: &Chain, key: u32) -> bool
-    ensures { result ≡ is_sole_in key chain.now }
-{
-    chain.links.iter().any(|link| is_key(link.sole, key))
-}
-
-/// Does the fence of this number alone order two operations, in a chain of the kind?
-fn is_sole(kind: &ChainKind, key: u32) -> bool
-    ensures { result ≡ is_sole key kind.now }
-{
-    kind.instances.iter().any(|chain| is_sole_in(chain, key))
-}
-
-/// Appends the number of the kind, if it is told and the fence is needed there.
-fn push_number(
-    alloc: Global,
-    kinds: &[ChainKind],
-    key: u32,
-    number: usize,
-    kind: &ChainKind,
-    numbers: &mut Vec<Name>,
-) -> Result<(), AllocError>
-    requires { number < length kinds.now }
-    ensures { OnOk result (numbers.new.items ≡ numbers.old.items ++ number_if kinds.now key (number, kind.now)) }
-{
-    if is_told(kinds, number) && is_sole(kind, key) {
-        let told = number + 1;
-        numbers.push(Name::new(format!(in alloc; "{}", told)?))?;
-    }
-    Ok(())
-}
-
-/// The numbers of the kinds that are told in which the fence is needed.
-fn numbers_with(alloc: Global, kinds: &[ChainKind], key: u32) -> Result<Vec<Name>, AllocError>
-    ensures { IfOk result (λ numbers. numbers.items ≡ numbers_with kinds.now key) }
-{
-    let mut numbers = Vec::new(alloc);
-    for (number, kind) in kinds.iter().enumerate() {
-        push_number(alloc, kinds, key, number, kind, &mut numbers)?;
-    }
-    Ok(numbers)
-}
-
-fn is_more(kinds: &[ChainKind], key: u32, number: usize) -> bool
-    ensures { result ≡ is_more kinds.now key number }
-{
-    number < kinds.len() && (!is_told(kinds, number) && is_sole(&kinds[number], key))
-}
-
-/// How many kinds that aren't told the fence is needed in.
-fn count_more(kinds: &[ChainKind], key: u32) -> usize
-    ensures { result ≡ count_more kinds.now key }
-{
-    (0..kinds.len())
-        .filter(|number| is_more(kinds, key, *number))
-        .count()
-}
-
-fn cycles_word(count: usize) -> &'static str
-    ensures { result.now ≡ (if count == 1 then codes "cycle " else codes "cycles ") }
-{
-    if count == 1 { "cycle " } else { "cycles " }
-}
-
-fn push_cycles(alloc: Global, numbers: &[Name], pieces: &mut Vec<Name>) -> Result<(), AllocError>
-    ensures { OnOk result (pieces.new.items ≡ pieces.old.items ++ cycles_piece numbers.now) }
-{
-    if numbers.is_empty() {
-        return Ok(());
-    }
-    let joined = and_joined(alloc, numbers)?;
-    let word = cycles_word(numbers.len());
-    pieces.push(Name::new(format!(in alloc; "{}{}", word, joined.as_str())?))?;
-    Ok(())
-}
-
-fn more_word(count: usize) -> &'static str
-    ensures { result.now ≡ (if count == 1 then codes " more kind" else codes " more kinds") }
-{
-    if count == 1 {
-        " more kind"
-    } else {
-        " more kinds"
-    }
-}
-
-fn push_more(alloc: Global, count: usize, pieces: &mut Vec<Name>) -> Result<(), AllocError>
-    ensures { OnOk result (pieces.new.items ≡ pieces.old.items ++ more_piece count) }
-{
-    if count == 0 {
-        return Ok(());
-    }
-    pieces.push(Name::new(format!(in alloc; "{}{}", count, more_word(count))?))?;
-    Ok(())
-}
-
-fn joined_pieces(alloc: Global, pieces: &[Name]) -> Result<String, AllocError>
-    ensures { IfOk result (λ text. string_bytes text ≡ joined_pieces pieces.now) }
-{
-    if pieces.is_empty() {
-        return Ok(String::new(alloc));
-    }
-    let joined = and_joined(alloc, pieces)?;
-    format!(in alloc; ": in {}", joined.as_str())
-}
-
-/// In which of the kinds the fence of this number is needed: the numbers of those that are told, and how many others.
-pub(crate) fn in_text(alloc: Global, kinds: &[ChainKind], key: u32) -> Result<String, AllocError>
-    ensures { IfOk result (λ text. string_bytes text ≡ in_text kinds.now key) }
-{
-    let numbers = numbers_with(alloc, kinds, key)?;
-    let mut pieces = Vec::new(alloc);
-    push_cycles(alloc, &numbers, &mut pieces)?;
-    push_more(alloc, count_more(kinds, key), &mut pieces)?;
-    joined_pieces(alloc, &pieces)
 }

@@ -12,7 +12,7 @@ ghost use Rattle.fs_cert_json.specs.Kept.{KeepsCycles};
 ghost use Rattle.fs_app_why.specs.Forbidden.{AreKinds, cycles_text};
 
 use crate::contradictions::contradictions_text;
-use crate::without::instr_text;
+use fs_app_why_kinds::{Telling, instr_text};
 use fs_cert_evidence::Inference;
 use fs_cert_json::CertifiedCycles;
 use fs_instr::Instr;
@@ -53,7 +53,7 @@ fn texts_of(alloc: Global, codes: &[Code]) -> Result<Vec<List<Name>>, AllocError
 
 /// The kinds of the ends to which the inferences come, in the order in which they are told. The cost is that of
 /// `chains` and `kinds_of` of fs_region_ends; the faults are those of `Basis::new`.
-pub(crate) fn inferred_kinds(
+pub fn inferred_kinds(
     alloc: Global,
     test: &Arc<Test>,
     placement: &Placement,
@@ -97,15 +97,16 @@ pub(crate) fn cycles_text(
     alloc: Global,
     test: &Test,
     lines: &[List<usize>],
+    telling: Telling,
     cycles: &CertifiedCycles,
     kinds: &[ChainKind],
 ) -> Result<String, AllocError>
     requires { IsTest test.now }
     ensures { (said : Cycles) → KeepsCycles cycles.now said
-        → IfOk result (λ text. string_bytes text ≡ cycles_text test.now lines.now said kinds.now) }
+        → IfOk result (λ text. string_bytes text ≡ cycles_text test.now lines.now telling said kinds.now) }
 {
     match cycles {
         CertifiedCycles::Listed(_) => Ok(String::new(alloc)),
-        CertifiedCycles::Inferred(_) => contradictions_text(alloc, test, lines, kinds),
+        CertifiedCycles::Inferred(_) => contradictions_text(alloc, test, lines, telling, kinds),
     }
 }

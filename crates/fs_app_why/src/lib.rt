@@ -3,26 +3,23 @@
 //! in a test as it is written, the contradictions as chains of operations.
 #![tactic(auto)]
 
-mod alike;
 mod answered;
-mod arrows;
 mod contradictions;
 mod ends;
 mod forbidden;
 mod marks;
-mod nearer;
 mod order;
 mod possible;
-mod relation;
 mod rows;
 mod ruled_out;
 mod table;
-mod told;
 mod trace;
 mod without;
 mod words;
 
 pub use answered::why_certified;
-pub use order::why_order;
-pub use possible::why_allowed;
-pub use ruled_out::why_forbidden;
+pub use forbidden::inferred_kinds;
+pub use fs_app_why_kinds::Telling;
+pub use order::{lines_of, why_order};
+pub use possible::{no_fences, why_allowed};
+pub use ruled_out::{verdict_on, why_forbidden};

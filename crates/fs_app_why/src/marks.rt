@@ -4,11 +4,13 @@ ghost use Rattle.std.specs.Prelude.{◌≡◌, ◌==◌, ◌++◌, [], codes, co
 ghost use Rattle.std.specs.Prelude.{OnOk, string_bytes};
 ghost use Rattle.std.specs.List.{list_any};
 ghost use Rattle.fs_app_why.specs.Traces.{overtakes, passed, passing, is_early, is_late, marks_early, places};
-ghost use Rattle.fs_app_why.specs.Traces.{place_at, ending, early_text, late_text, mark_text, operation_at};
+ghost use Rattle.fs_app_why.specs.Traces.{place_at, ending, early_text, late_text, mark_text};
+ghost use Rattle.fs_app_why_told.specs.Executions.{operation_at};
 ghost use Rattle.fs_model.specs.Numbers.{is_same};
 
-use crate::told::Told;
-use crate::words::{and_joined, place_text};
+use crate::words::place_text;
+use fs_app_why_kinds::and_joined;
+use fs_app_why_told::Told;
 use fs_kinds::List;
 use fs_model::{Name, stands_before};
 use std::alloc::{AllocError, Global};

@@ -24,7 +24,7 @@ use fs_litmus::{Test, read_fences, read_lines, read_test};
 use std::alloc::{AllocError, Global};
 
 /// The lines in which the instructions of a test stand. The error is F19.
-pub(crate) fn lines_of(alloc: Global, bytes: &[u8]) -> Result<Vec<List<usize>>, Fault>
+pub fn lines_of(alloc: Global, bytes: &[u8]) -> Result<Vec<List<usize>>, Fault>
     requires { (t : Tests) × Reads bytes.now t }
     ensures ok { IfOk result (λ lines. StandIn bytes.now lines.items) }
     ensures err { IsOkUnless result Memory }

@@ -12,15 +12,15 @@ ghost use Rattle.fs_report.specs.Given.{given};
 ghost use Rattle.fs_app_why.specs.inner.Told.{TellsExecution};
 ghost use Rattle.fs_app_why.specs.Why.{IsAllowedWhy, IsNoneWhy, IsNotShown};
 
-use crate::nearer::{file_of, nearer};
 use crate::order::{lines_of, told_below};
+use fs_app_why_nearer::{file_of, nearer};
 use fs_cert_evidence::{Choices, WitnessFile};
 use fs_kinds::{Fault, List, OperationName, Placement};
 use fs_litmus::{Test, read_test, slots};
 use std::alloc::Global;
 
 /// No fence in any slot of the test. The error is F19.
-pub(crate) fn no_fences(alloc: Global, test: &Test) -> Result<Placement, Fault>
+pub fn no_fences(alloc: Global, test: &Test) -> Result<Placement, Fault>
     requires { IsBounded test.now }
     ensures ok { IfOk result (λ placement. placement ≡ no_fences test.now) }
     ensures err { IsOkUnless result Memory }

@@ -7,13 +7,14 @@ ghost use Rattle.fs_kinds.specs.Limits.{most_locations};
 ghost use Rattle.fs_kinds.specs.ReasonText.{operation_name};
 ghost use Rattle.fs_app_why.specs.Traces.{from_text, source_text, location_text, does_at, does_text, row_named, row_of};
 ghost use Rattle.fs_app_why.specs.Traces.{rows, stores_text};
-ghost use Rattle.fs_app_why.specs.Words.{line_of};
+ghost use Rattle.fs_app_why_kinds.specs.Words.{line_of};
 
 use crate::marks::mark_text;
 use crate::table::Row;
-use crate::told::Told;
-use crate::words::{line_of, word_text};
+use crate::words::word_text;
 use fs_app_test::value_text;
+use fs_app_why_kinds::line_of;
+use fs_app_why_told::Told;
 use fs_instr::{Instr, write_instr};
 use fs_kinds::{List, OperationName};
 use fs_model::{Location, Name, Test};

@@ -15,17 +15,20 @@ ghost use Rattle.fs_judge.specs.Verdicts.{IsVerdict};
 ghost use Rattle.fs_region_ends.specs.Kinds.{ChainKind as Kinds};
 ghost use Rattle.fs_app_why.specs.Contradictions.{contradictions_text};
 ghost use Rattle.fs_app_why.specs.Forbidden.{AreKinds};
-ghost use Rattle.fs_app_why.specs.Why.{HasCandidateFault, IsAllowed, IsForbiddenWhy, TellsForbidden};
+ghost use Rattle.fs_app_why.specs.Why.{HasCandidateFault, IsAllowed, IsForbiddenWhy, TellsForbidden, TellsUnless};
+ghost use Rattle.fs_app_why.specs.Why.{is_written, lacks_written, unwritten_text};
 
 use crate::contradictions::contradictions_text;
 use crate::forbidden::inferred_kinds;
 use crate::order::lines_of;
 use crate::possible::no_fences;
+use fs_app_why_kinds::{Telling, instr_named};
 use fs_cert_evidence::{Cycles, Inference};
+use fs_instr::Instr;
 use fs_judge::{Problem, Verdict};
-use fs_kinds::{Fault, List, Placement};
+use fs_kinds::{Fault, List, OperationName, Placement};
 use fs_litmus::{Test, read_test};
-use std::alloc::Global;
+use std::alloc::{AllocError, Global};
 use std::sync::Arc;
 
 /// The contradictions to which the inferences come.
@@ -33,17 +36,18 @@ fn inferred_text(
     alloc: Global,
     test: &Arc<Test>,
     lines: &[List<usize>],
+    telling: Telling,
     placement: &Placement,
     inferences: &[Inference],
 ) -> Result<String, Fault>
     requires { IsTest (arc_value test.now) }
     ensures told { IfOk result (λ text. (kinds : Items Kinds)
         × AreKinds (arc_value test.now) placement.now (Inferred (map inference_of inferences.now)) kinds
-        × (string_bytes text ≡ contradictions_text (arc_value test.now) lines.now kinds)) }
+        × (string_bytes text ≡ contradictions_text (arc_value test.now) lines.now telling kinds)) }
     ensures err { IfErr result (λ f. f ≢ Memory → IsRunFault (arc_value test.now) f) }
 {
     let kinds = inferred_kinds(alloc, test, placement, inferences)?;
-    let text = contradictions_text(alloc, test, lines, &kinds)?;
+    let text = contradictions_text(alloc, test, lines, telling, &kinds)?;
     Ok(text)
 }
 
@@ -52,25 +56,34 @@ fn shown_text(
     alloc: Global,
     test: &Arc<Test>,
     lines: &[List<usize>],
+    telling: Telling,
     placement: &Placement,
     cycles: &Cycles,
 ) -> Result<String, Fault>
     requires test { IsTest (arc_value test.now) }
     requires shows { Forbid (arc_value test.now) placement.now (cycles_of cycles.now) }
     ensures told { IfOk result (λ text.
-        TellsForbidden (arc_value test.now) lines.now placement.now (string_bytes text)) }
+        TellsForbidden (arc_value test.now) lines.now telling placement.now (string_bytes text)) }
     ensures err { IfErr result (λ f. f ≢ Memory → IsRunFault (arc_value test.now) f) }
 {
     match cycles {
         Cycles::Listed(_) => Ok(String::new(alloc)),
         Cycles::Inferred(inferences) => {
-            inferred_text(alloc, test, lines, placement, inferences.as_slice())
+            inferred_text(
+                alloc,
+                test,
+                lines,
+                telling,
+                placement,
+                inferences.as_slice(),
+            )
         }
     }
 }
 
-/// The verdict on the test with these fences: that of a judge that has judged nothing.
-fn verdict_on(alloc: Global, test: &Arc<Test>, placement: &Placement) -> Result<Verdict, Fault>
+/// The verdict on the test with these fences: that of a judge that has judged nothing. The faults are those of `verdict` of
+/// fs_judge.
+pub fn verdict_on(alloc: Global, test: &Arc<Test>, placement: &Placement) -> Result<Verdict, Fault>
     requires { IsTest (arc_value test.now) }
     ensures ok { IfOk result (IsVerdict (arc_value test.now) placement.now) }
     ensures err { IfErr result (λ f. f ≢ Memory → IsCandidateFault (arc_value test.now) f) }
@@ -84,31 +97,89 @@ fn forbidden_text(
     alloc: Global,
     test: &Arc<Test>,
     lines: &[List<usize>],
+    telling: Telling,
     placement: &Placement,
 ) -> Result<Option<String>, Fault>
     requires { IsTest (arc_value test.now) }
     ensures some { IfOk result (λ found. IfSome found (λ text.
-        TellsForbidden (arc_value test.now) lines.now placement.now (string_bytes text))) }
+        TellsForbidden (arc_value test.now) lines.now telling placement.now (string_bytes text))) }
     ensures none { IfOk result (λ found. IfNone found (Allows (arc_value test.now) placement.now)) }
     ensures err { IfErr result (λ f. f ≢ Memory → IsCandidateFault (arc_value test.now) f) }
 {
     let verdict = verdict_on(alloc, test, placement)?;
     match verdict {
         Verdict::Forbids(forbidden) => {
-            let text = shown_text(alloc, test, lines, placement, &forbidden.cycles)?;
+            let text = shown_text(alloc, test, lines, telling, placement, &forbidden.cycles)?;
             Ok(Some(text))
         }
         Verdict::Allowed(_) => Ok(None),
     }
 }
 
+/// Is it a FENCE?
+fn is_written(instr: Option<Instr>) -> bool
+    ensures { result ≡ is_written instr }
+{
+    match instr {
+        Some(instr) => matches!(instr, Instr::Fence { .. } | Instr::FenceTso),
+        None => false,
+    }
+}
+
+/// Is a fence asked for where the test has none?
+fn lacks_written(telling: Telling, test: &Test) -> bool
+    ensures { result ≡ lacks_written telling test.now }
+{
+    match telling {
+        Telling::One { hart, at } => !is_written(instr_named(test, OperationName { hart, at })),
+        Telling::Few | Telling::All => false,
+    }
+}
+
+/// That it has none there.
+fn unwritten_text(alloc: Global, telling: Telling) -> Result<String, AllocError>
+    ensures { IfOk result (λ text. string_bytes text ≡ unwritten_text telling) }
+{
+    match telling {
+        Telling::One { hart, at } => {
+            let name = OperationName { hart, at };
+            format!(in alloc; "\nno fence stands at {}\n", name)
+        }
+        Telling::Few | Telling::All => Ok(String::new(alloc)),
+    }
+}
+
+/// The same, as far as it is asked for.
+fn asked_text(
+    alloc: Global,
+    test: &Arc<Test>,
+    lines: &[List<usize>],
+    telling: Telling,
+    placement: &Placement,
+) -> Result<Option<String>, Fault>
+    requires { IsTest (arc_value test.now) }
+    ensures some { IfOk result (λ found. IfSome found (λ text.
+        TellsUnless (lacks_written telling (arc_value test.now)) (unwritten_text telling)
+        (TellsForbidden (arc_value test.now) lines.now telling placement.now) (string_bytes text))) }
+    ensures none { IfOk result (λ found. IfNone found (Allows (arc_value test.now) placement.now)) }
+    ensures err { IfErr result (λ f. f ≢ Memory → IsCandidateFault (arc_value test.now) f) }
+{
+    if lacks_written(telling, test) {
+        let text = unwritten_text(alloc, telling)?;
+        return Ok(Some(text));
+    }
+    forbidden_text(alloc, test, lines, telling, placement)
+}
+
 /// What is told of a test that forbids its outcome as it is written: the ends of a refutation as chains of operations,
-/// those that are the same but for the harts together; nothing where a list of candidates shows it. None where an
-/// execution shows the outcome. The test is judged once more, as `judge_test` of fs_app_test does. The faults are those
-/// of `read_test`, of `Problem::new` and of `Problem::judged`. The cost is that of these three, of `chains` and
-/// `kinds_of` of fs_region_ends, and of `contradictions_text`.
-pub fn why_forbidden(alloc: Global, test: &[u8]) -> Result<Option<String>, Fault>
-    ensures some { IfOk result (λ found. IfSome found (λ text. IsForbiddenWhy test.now (string_bytes text))) }
+/// those that are the same but for the harts together, as many as `telling` says; nothing where a list of candidates
+/// shows it. Where one fence is asked for, and the instruction is no FENCE, a line says so. None where an execution
+/// shows the outcome. The test is judged once more, as `judge_test` of fs_app_test does. The faults are those of
+/// `read_test`, of `Problem::new` and of `Problem::judged`. The cost is that of these three, of `chains` and `kinds_of`
+/// of fs_region_ends, and of `contradictions_text`.
+pub fn why_forbidden(alloc: Global, telling: Telling, test: &[u8]) -> Result<Option<String>, Fault>
+    ensures some { IfOk result (λ found.
+        IfSome found (λ text. IsForbiddenWhy telling test.now (string_bytes text))) }
     ensures none { IfOk result (λ found. IfNone found (IsAllowed test.now)) }
     ensures fault { IfErr result (λ f. f ≢ Memory → HasCandidateFault test.now f ⊎ IsTestFault test.now f) }
 {
@@ -116,5 +187,5 @@ pub fn why_forbidden(alloc: Global, test: &[u8]) -> Result<Option<String>, Fault
     let lines = lines_of(alloc, test)?;
     let placement = no_fences(alloc, &read)?;
     let read = Arc::new(alloc, read)?;
-    forbidden_text(alloc, &read, &lines, &placement)
+    asked_text(alloc, &read, &lines, telling, &placement)
 }

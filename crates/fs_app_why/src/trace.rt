@@ -5,12 +5,13 @@ ghost use Rattle.fs_kinds.specs.Limits.{most_locations};
 ghost use Rattle.fs_model_axioms.specs.Final.{AreFinal};
 ghost use Rattle.fs_check.specs.Ordered.{IsOrdered, execution_in, runs_in};
 ghost use Rattle.fs_app_why.specs.Tables.{table_text};
-ghost use Rattle.fs_app_why.specs.Traces.{told_of, rows, trace_text};
+ghost use Rattle.fs_app_why.specs.Traces.{rows, trace_text};
+ghost use Rattle.fs_app_why_told.specs.Executions.{told_of};
 
 use crate::ends::ends_text;
 use crate::rows::rows;
 use crate::table::table_text;
-use crate::told::told_by;
+use fs_app_why_told::told_by;
 use fs_check::OrderedCandidate;
 use fs_kinds::List;
 use fs_model::Test;

@@ -1,90 +1,31 @@
 //! What each fence of an answer is for: an execution without it.
 
-ghost use Rattle.std.specs.Prelude.{◌≡◌, ◌++◌, List as Items, [], None, IfOk, IfSome, IfNone, IsOkUnless, IsTrue};
+ghost use Rattle.std.specs.Prelude.{◌≡◌, ◌++◌, List as Items, IfOk, IsOkUnless, IsTrue};
 ghost use Rattle.std.specs.Prelude.{string_bytes};
-ghost use Rattle.std.specs.List.{AllZip, slice_index_or};
-ghost use Rattle.fs_instr.specs.Writing.{instr_text};
+ghost use Rattle.std.specs.List.{AllZip};
 ghost use Rattle.fs_kinds.specs.declared.fault.Fault.TheVariants.{Memory};
-ghost use Rattle.fs_kinds.specs.Placement.{has_slot, with_kind};
+ghost use Rattle.fs_kinds.specs.Placement.{has_slot};
 ghost use Rattle.fs_model.specs.Test.{IsTest};
 ghost use Rattle.fs_model.specs.Witness.{Witness};
 ghost use Rattle.fs_model_axioms.specs.Final.{AreFinal};
 ghost use Rattle.fs_cert_evidence.specs.WitnessFile.{KeepsWitness};
 ghost use Rattle.fs_check.specs.Ordered.{IsOrdered, execution_in};
-ghost use Rattle.fs_app_why.specs.inner.Told.{IsOfFirst, NoneShows};
 ghost use Rattle.fs_app_why.specs.Traces.{trace_text};
 ghost use Rattle.fs_region_ends.specs.declared.fences.Fence.TheVariants.{Placed};
-ghost use Rattle.fs_region_ends.specs.Kinds.{ChainKind as Kinds};
-ghost use Rattle.fs_app_why.specs.Contradictions.{fence_key, in_text};
-ghost use Rattle.fs_app_why.specs.Why.{NoWitnessShows, TellsFences, TellsFirst, TellsWithout, fence_line, head_text};
-ghost use Rattle.fs_app_why.specs.Why.{instr_at, named_text, without_heading};
+ghost use Rattle.fs_app_why_kinds.specs.Counted.{in_text};
+ghost use Rattle.fs_app_why_kinds.specs.Told.{fence_key};
+ghost use Rattle.fs_app_why.specs.Why.{NoWitnessShows, TellsFences, TellsFirst, TellsWithout, asked, fence_line};
+ghost use Rattle.fs_app_why.specs.Why.{head_text, instr_at, is_passed, named_text, without_heading};
 
-use crate::contradictions::{fence_key, in_text};
-use crate::nearer::nearer;
 use crate::trace::trace_text;
-use crate::words::line_of;
+use fs_app_why_kinds::{Telling, code_of, fence_key, in_text, instr_text, line_of};
+use fs_app_why_nearer::first_without;
 use fs_cert_evidence::WitnessFile;
 use fs_check::OrderedCandidate;
-use fs_instr::{Instr, write_instr};
 use fs_kinds::{Entry, Fault, Kind, List, OperationName, Placement, Slot};
 use fs_litmus::Test;
 use fs_region_ends::{ChainKind, Fence};
 use std::alloc::{AllocError, Global};
-
-/// The placement with no fence in the slot.
-fn without(placement: &Placement, slot: Slot) -> Result<Placement, Fault>
-    requires { IsTrue (has_slot slot placement.now) }
-    ensures ok { IfOk result (λ other. other ≡ with_kind slot None placement.now) }
-    ensures err { IsOkUnless result Memory }
-{
-    let mut other = placement.copy()?;
-    other.with(slot, None)?;
-    Ok(other)
-}
-
-/// The execution of the first of the witnesses that shows the outcome with these fences, with more of program order
-/// where that can be kept; what a fence in the slot would order is given up before all else. The error is F19.
-fn first_shown(
-    alloc: Global,
-    test: &Test,
-    placement: &Placement,
-    slot: Slot,
-    files: &[WitnessFile],
-) -> Result<Option<OrderedCandidate>, Fault>
-    requires { IsTest test.now }
-    ensures ordered { IfOk result (λ found. IfSome found (IsOrdered test.now)) }
-    ensures last { IfOk result (λ found. IfSome found (λ o. AreFinal test.now o.candidate.traces)) }
-    ensures some { IfOk result (λ found. IfSome found (IsOfFirst test.now placement.now files.now)) }
-    ensures none { IfOk result (λ found. IfNone found (NoneShows test.now files.now placement.now)) }
-    ensures err { IsOkUnless result Memory }
-{
-    for file in files {
-        match nearer(alloc, test, placement, Some(slot), file)? {
-            Some(found) => return Ok(Some(found)),
-            None => {}
-        }
-    }
-    Ok(None)
-}
-
-pub(crate) fn code_of(test: &Test, hart: u8) -> &[Instr]
-    ensures { result.now ≡ slice_index_or test.now.codes hart [] }
-{
-    let codes = test.codes.as_slice();
-    if usize::from(hart) < codes.len() {
-        codes[usize::from(hart)].as_slice()
-    } else {
-        &[]
-    }
-}
-
-pub(crate) fn instr_text(alloc: Global, instr: Instr) -> Result<String, AllocError>
-    ensures { IfOk result (λ text. string_bytes text ≡ instr_text instr) }
-{
-    let mut text = String::new(alloc);
-    write_instr(&instr, &mut text)?;
-    Ok(text)
-}
 
 /// The instruction before which the slot is, in print.
 fn instruction(alloc: Global, test: &Test, slot: Slot) -> Result<String, AllocError>
@@ -124,28 +65,36 @@ fn named_text(
 /// In which of the kinds the fence is needed.
 fn kinds_text(
     alloc: Global,
+    telling: Telling,
     kinds: &[ChainKind],
     slot: Slot,
     kind: Kind,
 ) -> Result<String, AllocError>
-    ensures { IfOk result (λ text. string_bytes text ≡ in_text kinds.now (fence_key (Placed slot kind))) }
+    ensures { IfOk result (λ text. string_bytes text ≡ in_text telling kinds.now (fence_key (Placed slot kind))) }
 {
-    in_text(alloc, kinds, fence_key(Fence::Placed { slot, kind }))
+    in_text(
+        alloc,
+        telling,
+        kinds,
+        fence_key(Fence::Placed { slot, kind }),
+    )
 }
 
-/// The line of the fence, as that with `: in cycles 1 and 2` behind it.
+/// The line of the fence.
 fn fence_line(
     alloc: Global,
     test: &Test,
     lines: &[List<usize>],
+    telling: Telling,
     kinds: &[ChainKind],
-    slot: Slot,
-    kind: Kind,
+    fence: (Slot, Kind),
 ) -> Result<String, AllocError>
-    ensures { IfOk result (λ text. string_bytes text ≡ fence_line test.now lines.now kinds.now slot kind) }
+    ensures { IfOk result (λ text.
+        string_bytes text ≡ fence_line test.now lines.now telling kinds.now fence.0 fence.1) }
 {
+    let (slot, kind) = fence;
     let named = named_text(alloc, test, lines, slot, kind)?;
-    let cycles = kinds_text(alloc, kinds, slot, kind)?;
+    let cycles = kinds_text(alloc, telling, kinds, slot, kind)?;
     format!(in alloc; "{}{}\n", named.as_str(), cycles.as_str())
 }
 
@@ -154,14 +103,15 @@ fn head_text(
     alloc: Global,
     test: &Test,
     lines: &[List<usize>],
+    telling: Telling,
     kinds: &[ChainKind],
     entry: Entry,
 ) -> Result<String, AllocError>
     ensures { IfOk result (λ text. string_bytes text
-        ≡ head_text test.now lines.now kinds.now entry.slot entry.kind) }
+        ≡ head_text test.now lines.now telling kinds.now entry.slot entry.kind) }
 {
     match entry.kind {
-        Some(kind) => fence_line(alloc, test, lines, kinds, entry.slot, kind),
+        Some(kind) => fence_line(alloc, test, lines, telling, kinds, (entry.slot, kind)),
         None => Ok(String::new(alloc)),
     }
 }
@@ -194,13 +144,11 @@ fn first_text(
 ) -> Result<String, Fault>
     requires test { IsTest test.now }
     requires there { IsTrue (has_slot slot placement.now) }
-    ensures told { (kinds : Items Kinds) (ws : Items Witness) → AllZip KeepsWitness files.now ws → IfOk result (λ text.
-        TellsFirst test.now lines.now kinds ws (NoWitnessShows test.now ws) placement.now slot
-        (string_bytes text)) }
+    ensures told { (ws : Items Witness) → AllZip KeepsWitness files.now ws → IfOk result (λ text.
+        TellsFirst test.now lines.now ws (NoWitnessShows test.now ws) placement.now slot (string_bytes text)) }
     ensures err { IsOkUnless result Memory }
 {
-    let other = without(placement, slot)?;
-    match first_shown(alloc, test, &other, slot, files)? {
+    match first_without(alloc, test, placement, slot, files)? {
         Some(shown) => {
             let told = shown_text(alloc, test, lines, &shown)?;
             Ok(told)
@@ -220,8 +168,8 @@ fn without_text(
 ) -> Result<String, Fault>
     requires test { IsTest test.now }
     requires there { IsTrue (has_slot entry.slot placement.now) }
-    ensures told { (kinds : Items Kinds) (ws : Items Witness) → AllZip KeepsWitness files.now ws → IfOk result (λ text.
-        TellsWithout test.now lines.now kinds ws (NoWitnessShows test.now ws) placement.now entry.slot entry.kind
+    ensures told { (ws : Items Witness) → AllZip KeepsWitness files.now ws → IfOk result (λ text.
+        TellsWithout test.now lines.now ws (NoWitnessShows test.now ws) placement.now entry.slot entry.kind
         (string_bytes text)) }
     ensures err { IsOkUnless result Memory }
 {
@@ -231,26 +179,48 @@ fn without_text(
     }
 }
 
-/// What is told of each fence, in the order of their slots: which of these kinds of contradictions it is in, and where
-/// one of the witnesses shows the outcome without it, an execution of the first that does. The error is F19.
+/// Is something else asked for than the fence in the slot?
+fn is_passed(telling: Telling, slot: Slot) -> bool
+    ensures { result ≡ is_passed telling slot }
+{
+    match telling {
+        Telling::One { hart, at } => !(slot.hart == hart && slot.at == at),
+        Telling::Few | Telling::All => false,
+    }
+}
+
+/// The slot, as one without a fence where it isn't asked for.
+fn asked(telling: Telling, entry: Entry) -> Entry
+    ensures { result ≡ asked telling entry }
+{
+    let Entry { slot, kind } = entry;
+    let kind = if is_passed(telling, slot) { None } else { kind };
+    Entry { slot, kind }
+}
+
+/// What is told of each fence that is asked for, in the order of their slots: which of these kinds of contradictions
+/// it is in, and where one of the witnesses shows the outcome without it, an execution of the first that does. The error
+/// is F19.
 pub(crate) fn fences_text(
     alloc: Global,
     test: &Test,
     lines: &[List<usize>],
+    telling: Telling,
     kinds: &[ChainKind],
     placement: &Placement,
     files: &[WitnessFile],
 ) -> Result<String, Fault>
     requires { IsTest test.now }
     ensures told { (ws : Items Witness) → AllZip KeepsWitness files.now ws → IfOk result (λ text.
-        TellsFences test.now lines.now kinds.now ws (NoWitnessShows test.now ws) placement.now placement.now
+        TellsFences test.now lines.now telling kinds.now ws (NoWitnessShows test.now ws) placement.now placement.now
         (string_bytes text)) }
     ensures err { IsOkUnless result Memory }
 {
     let mut text = String::new(alloc);
     for entry in placement.as_slice() {
-        let head = head_text(alloc, test, lines, kinds, *entry)?;
-        let told = without_text(alloc, test, lines, placement, files, *entry)?;
+        let entry = asked(telling, *entry);
+        let head = head_text(alloc, test, lines, telling, kinds, entry)?;
+        let told = without_text(alloc, test, lines, placement, files, entry)?;
         text.push_str(head.as_str())?;
         text.push_str(told.as_str())?;
     }

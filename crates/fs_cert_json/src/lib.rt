@@ -5,6 +5,7 @@ mod cause;
 mod certificate;
 mod json_values;
 mod operands;
+pub mod pieces;
 mod read;
 mod read_answer;
 mod read_cycles;

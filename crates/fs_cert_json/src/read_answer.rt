@@ -14,8 +14,8 @@ use fs_kinds::{Fault, List};
 use serde_json::Value;
 use std::alloc::Global;
 
-/// The answer that the value says.
-pub(crate) fn read_answer(alloc: Global, value: &Value) -> Result<CertifiedAnswer, Fault>
+/// The answer that the value says, as in a certificate. F18 where it says none; or F19.
+pub fn read_answer(alloc: Global, value: &Value) -> Result<CertifiedAnswer, Fault>
     ensures ok { IfOk result (λ answer. IsAnswerValue (view value.now) (answer_of answer)) }
     ensures bad { IsErrOf result Fault.BadCertificate → (answer : said.Answer)
         → ¬ IsAnswerValue (view value.now) answer }

@@ -17,8 +17,8 @@ use fs_kinds::{Fault, List};
 use serde_json::Value;
 use std::alloc::Global;
 
-/// The inferences that the value says.
-pub(crate) fn read_inferences(alloc: Global, value: &Value) -> Result<List<Inference>, Fault>
+/// The inferences that the value says, as in a certificate of the fourth version. F18 where it says none; or F19.
+pub fn read_inferences(alloc: Global, value: &Value) -> Result<List<Inference>, Fault>
     ensures ok { IfOk result (λ kept. IsArrayOf IsInference (view value.now) (map inference_of kept)) }
     ensures bad { IsErrOf result Fault.BadCertificate → (inferences : List said.Inference)
         → ¬ IsArrayOf IsInference (view value.now) inferences }

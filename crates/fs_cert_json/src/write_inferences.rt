@@ -13,8 +13,8 @@ use fs_kinds::OperationName;
 use serde_json::{Value, json};
 use std::alloc::{AllocError, Global};
 
-/// The JSON array of the inferences.
-pub(crate) fn inferences_value(alloc: Global, inferences: &[Inference]) -> Result<Value, AllocError>
+/// The JSON array of the inferences, as in a certificate of the fourth version. The error is want of memory.
+pub fn inferences_value(alloc: Global, inferences: &[Inference]) -> Result<Value, AllocError>
     ensures { IfOk result (λ value. view value ≡ array_of (map inference_value (map inference_of inferences.now))) }
 {
     let mut values = Vec::new(alloc);

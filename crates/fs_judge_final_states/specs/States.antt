@@ -14,6 +14,7 @@ use Rattle.fs_model.specs.Shows.{final_register, final_word}
 use Rattle.fs_model.specs.TooMany.{AreMoreThan, IsRunFault}
 use Rattle.fs_model.specs.Witness.{IsOfWitness}
 use Rattle.fs_cert_evidence.specs.CandidateFaults.{IsCandidateFault}
+pub use Rattle.fs_judge_states_limit.specs.Limit.{most_states}
 use Rattle.fs_judge_final_states.specs.declared.place.Place.{Place}
 use Rattle.fs_judge_final_states.specs.declared.place.Place.TheVariants.{Register, Location}
 use Rattle.fs_judge_final_states.specs.declared.state.State.{State}
@@ -59,10 +60,6 @@ IsPlaceOf harts locations (Location location) = location < locations
 
 abbrev pub ArePlacesOf : Test → List Place → Type 0
 ArePlacesOf t places = All (IsPlaceOf (length t.codes) (length t.locations)) places
-
--- how many states a list may have
-abbrev pub most_states : ℕ
-most_states = 200000
 
 -- no hart's runs have a fault, and there are more states than a list may have
 abbrev pub HasTooManyStates : Test → List Entry → List Place → Type 0

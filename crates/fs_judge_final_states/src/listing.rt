@@ -23,13 +23,11 @@ use crate::place::Place;
 use crate::splitting::split;
 use crate::state::State;
 use fs_judge::Problem;
+use fs_judge_states_limit::are_too_many;
 use fs_kinds::{Fault, List, Placement};
 use fs_model::Test;
 use std::alloc::{AllocError, Global};
 use std::sync::Arc;
-
-/// How many states a list may have.
-const MOST_STATES: usize = 200_000;
 
 // The states that are known, the parts that may have others (each other state is in one of them), and what is learned.
 #[derive(Drop)]
@@ -105,7 +103,7 @@ fn all_states(
 {
     let mut listing = begun(alloc, problem.test(), places)?;
     for _ in 0..u64::MAX {
-        if listing.known.len() > MOST_STATES {
+        if are_too_many(listing.known.len()) {
             return Err(Fault::TooManyCandidates);
         }
         let Some(part) = listing.parts.pop() else {

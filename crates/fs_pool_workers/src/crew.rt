@@ -1,11 +1,10 @@
 //! The answer to a question, searched by many workers.
 
-ghost use Rattle.std.specs.Prelude.{◌≡◌, ◌≢◌, ◌≤◌, [], IfOk, IfErr, IfSome, IsOkUnless, OnOk, All, drop, map};
+ghost use Rattle.std.specs.Prelude.{◌≡◌, ◌≢◌, ◌≤◌, [], IfOk, IfErr, IfSome, IsOkUnless, OnOk, All, map};
 ghost use Rattle.std.specs.Arc.{arc_value};
 ghost use Rattle.fs_board_offers.specs.Offers.{slots};
 ghost use Rattle.fs_board_offers.specs.Questions.{HasTop, IsAtSlots};
 ghost use Rattle.fs_model.specs.Test.{IsBounded, IsStart};
-ghost use Rattle.fs_board_offers.specs.Receipts.{IsAgreed};
 ghost use Rattle.fs_board_offers.specs.Sizes.{HasNoRunFault};
 ghost use Rattle.fs_board.specs.Growth.{AreWitnesses};
 ghost use Rattle.fs_pool.specs.Asked.{IsAsked};
@@ -23,7 +22,8 @@ use fs_board_search::{
 };
 use fs_cert_evidence::Witness;
 use fs_kinds::Fault;
-use fs_pool::{Asked, Desk, Hand, Pass, finish, hands};
+use fs_pool::{Asked, Desk, Hand, Pass, hands};
+use fs_pool_handover::handed_out;
 use std::alloc::{AllocError, Global};
 use std::marker::Brand;
 use std::sync::{Arc, Wait};
@@ -93,16 +93,6 @@ fn work_together<A: Asked + Send + Sync, R: Threads + Wait + Sync, G: Gate + Syn
         },
     )?;
     Ok(came)
-}
-
-/// The board that the workers leave, with nodes that are open or held where they lacked memory or met the limit: its
-/// log since the desk was made agrees with the passes. None where `finish` hands none out: then the lock or the threads
-/// didn't do as they should.
-fn handed_out<A: Asked>(desk: Desk<A>, passes: Vec<Pass<A>>) -> Option<Board>
-    ensures asked { IfSome result (λ b. IsAsked b A.question A.limit) }
-    ensures agreed { IfSome result (λ b. IsAgreed passes.items (drop desk.since b.log)) }
-{
-    finish(desk, passes).ok()
 }
 
 /// The answer, from the board that the workers leave, which is searched to its end as by one: the log of the board that

@@ -13,15 +13,14 @@ use Rattle.fs_model.specs.Execution.{Execution}
 use Rattle.fs_model.specs.Allows.{Shows, Allows}
 use Rattle.fs_model_laws.proofs.PlacedPairs.{subset_from, subset_at}
 use Rattle.fs_model_laws.proofs.ExactWidths.{exact}
-use Rattle.fs_cert_evidence.specs.Evidence.{Shown, IsWitnessAt, keeps, pairs_at, widths_of}
+use Rattle.fs_cert_evidence.specs.Evidence.{Shown, keeps, pairs_at, widths_of}
 use Rattle.fs_cert_evidence.specs.Widths.{Width, width}
 use Rattle.fs_cert_evidence.specs.declared.evidence.Pairs.{Pairs}
 use Rattle.fs_board_offers.specs.Breaks.{fits}
 use Rattle.fs_board_offers.specs.Offers.{Offers, slots}
-use Rattle.fs_judge.specs.Verdicts.{IsShownWith}
 use Rattle.fs_sites_plan.specs.Plans.{is_within}
 use Rattle.fs_sites.specs.Questions.{Part, AllowsIn, IsPart, image, kind_of, slots_at}
-use Rattle.fs_sites.specs.Answers.{IsShownIn}
+use Rattle.fs_sites.specs.Answers.{IsShownIn, IsShownUnder}
 use Rattle.fs_sites.specs.declared.question.Place.{Place}
 use Rattle.fs_sites.specs.inner.Bars.{ForbidBetween, IsBar, IsBarOf, IsShownBySome}
 
@@ -96,15 +95,14 @@ module _ (w : Width) (p r : List Entry) (places : List Place) (widths bar : List
   within-width = fits-all w r places fits-place
 
 -- the execution of an unbroken bar shows its test's outcome
-shows : (part : Part) (p r : List Entry) (witness : Shown) (bar : List Pairs) (e : Execution) → IsPart part
-    → IsWitnessAt part.test (slots_of (image part.places p)) witness e → IsBar part.places witness.widths bar
+shows : (part : Part) (p r : List Entry) (widths bar : List Pairs) (e : Execution) → IsPart part → Shows part.test [] e
+    → widths ≡ widths_of (width part.test e) (slots_of (image part.places p)) → IsBar part.places widths bar
     → length bar ≡ length r → is_within bar r ≡ true → Shows part.test (image part.places r) e
-shows part p r witness bar e asked is kept same within =
-    let bare = is.shows.1 in
+shows part p r widths bar e asked bare are kept same within =
     let rising = ap is_rising (slots-image r part.places) ∙ asked.rising in
     record {
       execution = (exact part.test e bare.execution (image part.places r) rising).0
-          (within-width (width part.test e) p r part.places witness.widths bar is.widths kept same within);
+          (within-width (width part.test e) p r part.places widths bar are kept same within);
       outcome = bare.outcome;
     }
 
@@ -116,15 +114,23 @@ length-slots [] (o ∷ offers) same = absurd (cc)
 length-slots (e ∷ p) [] same = absurd (cc)
 length-slots (e ∷ p) (o ∷ offers) same = ap suc (length-slots p offers (cc))
 
-pub unbroken : (parts : List Part) (offers : Offers) (p : List Entry) (number : ℕ) (part : Part) (witness : Shown) (bar : List Pairs)
-    → All IsPart parts → slice_get parts number ≡ Some part → IsShownWith part.test (image part.places p) witness
-    → IsBar part.places witness.widths bar → length bar ≡ length offers → IsBarOf parts offers bar
-unbroken parts offers p number part witness bar each at shown kept same r placement within = (
+-- the bar of an execution that shows the outcome without placed fences, by its widths at the places
+pub of_execution : (parts : List Part) (offers : Offers) (p : List Entry) (number : ℕ) (part : Part) (e : Execution) (widths bar : List Pairs)
+    → All IsPart parts → slice_get parts number ≡ Some part → Shows part.test [] e
+    → widths ≡ widths_of (width part.test e) (slots_of (image part.places p)) → IsBar part.places widths bar
+    → length bar ≡ length offers → IsBarOf parts offers bar
+of_execution parts offers p number part e widths bar each at bare are kept same r placement within = (
   number,
   part,
   at,
-  (shown.0, shows part p r witness bar shown.0 (part_at parts number part each at) shown.1 kept (same ∙ length-slots r offers placement.slots) within),
+  (e, shows part p r widths bar e (part_at parts number part each at) bare are kept (same ∙ length-slots r offers placement.slots) within),
 )
+
+unbroken : (parts : List Part) (offers : Offers) (p : List Entry) (number : ℕ) (part : Part) (witness : Shown) (bar : List Pairs)
+    → All IsPart parts → slice_get parts number ≡ Some part → IsShownUnder part.test (image part.places p) witness
+    → IsBar part.places witness.widths bar → length bar ≡ length offers → IsBarOf parts offers bar
+unbroken parts offers p number part witness bar each at shown kept same =
+    of_execution parts offers p number part shown.0 witness.widths bar each at shown.1.shows.1 shown.1.widths kept same
 
 -- the same of what `bar_of` gives
 pub bar-given : {E : Type 0} (parts : List Part) (offers : Offers) (number n : ℕ) (witness : Shown) (other : Part) (places : List Place) (widths : List Pairs)

@@ -3,19 +3,27 @@ use Rattle.std.specs.Prelude.{◌≡◌, ◌⊎◌, ℕ, Some, List, slice_get}
 use Rattle.fs_kinds.specs.declared.fault.Fault.{Fault}
 use Rattle.fs_kinds.specs.declared.fault.Fault.TheVariants.{NodeLimit}
 use Rattle.fs_kinds.specs.declared.placement.Entry.{Entry}
+use Rattle.fs_kinds.specs.Placement.{slots_of}
+use Rattle.fs_model.specs.declared.test.Test.{Test}
+use Rattle.fs_model.specs.Allows.{Shows}
+use Rattle.fs_model.specs.Execution.{Execution}
 use Rattle.fs_board_offers.specs.Offers.{cost}
 use Rattle.fs_cert_evidence.specs.CandidateFaults.{IsCandidateFault}
-use Rattle.fs_cert_evidence.specs.Evidence.{Shown}
-use Rattle.fs_judge.specs.Verdicts.{IsShownWith}
+use Rattle.fs_cert_evidence.specs.Evidence.{Shown, IsWitnessAt}
 use Rattle.fs_sites.specs.Questions.{Question, Part, image, top, IsCheapestIn}
 use Rattle.fs_sites.specs.declared.answer.Answer.{Answer}
 use Rattle.fs_sites.specs.declared.answer.Answer.TheVariants as answer
+
+-- the witness, whose widths are those at the placement's slots, gives an execution that shows the outcome with these
+-- fences too
+abbrev pub IsShownUnder : Test → List Entry → Shown → Type 0
+IsShownUnder t p witness = (e : Execution) × IsWitnessAt t (slots_of p) witness e × Shows t p e
 
 -- the witness, whose widths are those at the places, gives an execution that shows the outcome of the test of this
 -- number with these fences of the sites
 abbrev pub IsShownIn : List Part → List Entry → ℕ → Shown → Type 0
 IsShownIn parts p number witness =
-    (part : Part) × (slice_get parts number ≡ Some part) × IsShownWith part.test (image part.places p) witness
+    (part : Part) × (slice_get parts number ≡ Some part) × IsShownUnder part.test (image part.places p) witness
 
 -- The cheapest placement that forbids each outcome, and of those the first, with its cost; or a witness that one test's
 -- outcome is allowed even with rw,rw at each site.

@@ -45,7 +45,7 @@ fn kept_at(places: &[Place], widths: &[Pairs], site: usize) -> Pairs
 
 /// The bar of an execution of a test with these places, by the pairs that its order keeps at each: for each of so many
 /// sites those that are kept at all its places. It takes time of sites times places.
-pub(crate) fn bar_of(
+pub fn bar_of(
     alloc: Global,
     places: &[Place],
     widths: &[Pairs],

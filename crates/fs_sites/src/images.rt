@@ -50,11 +50,7 @@ fn fill(places: &[Place], placement: &Placement, fences: &mut Placement)
 
 /// What stands in a test with these places: at each the fence of its site. It takes time of places squared. The error
 /// is F19.
-pub(crate) fn image(
-    alloc: Global,
-    places: &[Place],
-    placement: &Placement,
-) -> Result<Placement, Fault>
+pub fn image(alloc: Global, places: &[Place], placement: &Placement) -> Result<Placement, Fault>
     requires { is_rising (slots_at places.now) ≡ true }
     ensures ok { IfOk result (λ fences. fences ≡ image places.now placement.now) }
     ensures err { IsOkUnless result Memory }

@@ -1,5 +1,5 @@
-//! One fence for a function in all its copies, and several tests in one question: the cheapest fences of sites that
-//! rule out the outcome of each test.
+//! One fence for a function in all its copies, and several tests in one question: what is asked, what answers it, and
+//! what an execution of a test says of the fences of sites.
 #![tactic(auto)]
 
 mod answer;
@@ -7,8 +7,8 @@ mod bars;
 mod images;
 pub mod laws;
 mod question;
-mod rounds;
 
 pub use answer::Answer;
+pub use bars::bar_of;
+pub use images::image;
 pub use question::{Part, Place, Question};
-pub use rounds::solve;

@@ -1,13 +1,7 @@
-use Rattle.std.proofs.Common.{◌∙◌, ap, map, string_bytes, sym}
 use Rattle.std.proofs.lemmas.Result.{IfOk-weaker}
-use Rattle.fs_app.specs.Answers.{alone, several}
+use Rattle.fs_app.specs.Answers.{mended}
 use Rattle.fs_app.proofs.audits.answer_audit.Goals as goal
 
-pub returns-then-is_alone : goal.returns-then-is_alone
-returns-then-is_alone g c =
-    IfOk-weaker c.answer_alone.result _ _
-    (λ output h. alone c.in-Some.word.now (ap (map string_bytes) (sym c.as_slice.ensures.value) ∙ c.in-Some.ensures) h)
-    c.answer_alone.ensures
-
-pub returns : goal.returns
-returns g c = IfOk-weaker c.answer_files.result _ _ (λ output h. several c.if-audit.false h) c.answer_files.ensures
+pub returns-then-audit : goal.returns-then-audit
+returns-then-audit g c =
+    IfOk-weaker c.answer_in_place.result _ _ (λ output h. mended c.if-audit.true h) c.answer_in_place.ensures

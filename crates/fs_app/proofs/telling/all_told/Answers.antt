@@ -26,7 +26,7 @@ loop-number-preserved c =
     let long : 0 + length (take n lines) ≡ n = omega (arith, length-take-le n lines (omega arith)) in
     let told = c.in_ok-push_told.ensures in
     let whole = string_bytes c.push_told.new.text in
-    subst (λ those. AreTold those tests whole)
+    subst (λ those. AreTold c.args.telling those tests whole)
     (sym (take_more lines n line low ∙ ap (λ those. take n lines ++ those ∷ []) (sym c.index-lines-number.is)))
-    (one_more tests 0 n (take n lines) line (string_bytes c.loop-number.text) told.0 whole long c.loop-number.invariant
-    (subst (λ bytes. IsTestTold line bytes told.0) c.test_at.ensures told.1) told.2)
+    (one_more c.args.telling tests 0 n (take n lines) line (string_bytes c.loop-number.text) told.0 whole long c.loop-number.invariant
+    (subst (λ bytes. IsTestTold c.args.telling line bytes told.0) c.test_at.ensures told.1) told.2)

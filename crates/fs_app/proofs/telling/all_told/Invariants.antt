@@ -4,4 +4,4 @@ use Rattle.fs_app.proofs.telling.all_told.Given as goal
 
 -- those so far
 abbrev pub invariant-loop-number : goal.invariant-loop-number
-invariant-loop-number l = AreTold (take l.number l.lines) (map (λ test. test.items) l.tests) (string_bytes l.text)
+invariant-loop-number l = AreTold l.telling (take l.number l.lines) (map (λ test. test.items) l.tests) (string_bytes l.text)

@@ -5,4 +5,4 @@ pub returns-clause-solved : goal.returns-clause-solved
 returns-clause-solved c = solved
 
 pub returns-clause-checked : goal.returns-clause-checked
-returns-clause-checked c test prices lines certificate text said is = checked test prices lines certificate text said is
+returns-clause-checked c telling test prices lines certificate text said is = checked telling test prices lines certificate text said is

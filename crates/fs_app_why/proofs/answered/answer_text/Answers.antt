@@ -9,8 +9,8 @@ use Rattle.fs_app_why.proofs.answered.answer_text.Goals as goal
 
 pub returns-in-NoneForbids-clause-told : goal.returns-in-NoneForbids-clause-told
 returns-in-NoneForbids-clause-told c said keeps =
-    subst (λ a. IfOk c.first_text.result (λ text. TellsAnswer c.args.test.now a said.cycles said.witnesses (string_bytes text)))
-    (sym (keeps.answer ∙ ap answer_of c.in-NoneForbids.is)) (c.first_text.ensures.told said.cycles said.witnesses
+    subst (λ a. IfOk c.first_text.result (λ text. TellsAnswer c.args.telling c.args.test.now a said.cycles said.witnesses (string_bytes text)))
+    (sym (keeps.answer ∙ ap answer_of c.in-NoneForbids.is)) (c.first_text.ensures.told c.args.telling said.cycles said.witnesses
     (subst (λ files. AllZip KeepsWitness files said.witnesses) (sym c.as_slice.ensures) keeps.witnesses))
 
 pub returns-in-Fenced-clause-fault : goal.returns-in-Fenced-clause-fault

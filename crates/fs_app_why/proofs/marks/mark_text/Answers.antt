@@ -1,6 +1,6 @@
 use Rattle.std.proofs.Common.{string_bytes}
 use Rattle.std.proofs.lemmas.Result.{IfOk-weaker}
-use Rattle.fs_app_why.proofs.Telling.{marked_early, marked_late}
+use Rattle.fs_app_why.proofs.Texts.{marked_early, marked_late}
 use Rattle.fs_app_why.proofs.marks.mark_text.Goals as goal
 
 pub returns-then-is_told_early : goal.returns-then-is_told_early

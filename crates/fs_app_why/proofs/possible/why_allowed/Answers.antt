@@ -6,7 +6,7 @@ use Rattle.fs_cert_evidence.specs.WitnessFile.{KeepsWitness}
 use Rattle.fs_litmus.specs.Lines.{StandIn}
 use Rattle.fs_app_why.specs.Why.{allowed_heading}
 use Rattle.fs_app_why.proofs.Faults.{memory_or}
-use Rattle.fs_app_why.proofs.Telling.{not_shown_if_none, told_if_some}
+use Rattle.fs_app_why.proofs.Texts.{not_shown_if_none, told_if_some}
 use Rattle.fs_app_why.proofs.possible.why_allowed.Goals as goal
 
 pub lines_of-requires : goal.lines_of-requires

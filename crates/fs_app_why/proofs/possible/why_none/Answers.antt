@@ -4,7 +4,7 @@ use Rattle.fs_model.specs.Allows.{full_fences}
 use Rattle.fs_litmus.specs.Lines.{StandIn}
 use Rattle.fs_app_why.specs.Why.{none_heading}
 use Rattle.fs_app_why.proofs.Faults.{memory_or}
-use Rattle.fs_app_why.proofs.Telling.{not_shown_if_none, told_if_some}
+use Rattle.fs_app_why.proofs.Texts.{not_shown_if_none, told_if_some}
 use Rattle.fs_app_why.proofs.possible.why_none.Goals as goal
 
 pub lines_of-requires : goal.lines_of-requires

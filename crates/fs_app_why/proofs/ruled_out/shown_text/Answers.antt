@@ -19,7 +19,7 @@ returns-in-Listed-clause-told c =
       shows = c.requires.shows;
       are_kinds = subst (λ (cycles : Cycles). AreKinds t p (cycles_of cycles) []) (sym c.in-Listed.is) refl;
       told = c.new.ensures.bytes
-          ∙ ap (λ (cycles : Cycles). cycles_text t c.args.lines.now (cycles_of cycles) []) (sym c.in-Listed.is);
+          ∙ ap (λ (cycles : Cycles). cycles_text t c.args.lines.now c.args.telling (cycles_of cycles) []) (sym c.in-Listed.is);
     }
 
 pub returns-in-Inferred-clause-told : goal.returns-in-Inferred-clause-told

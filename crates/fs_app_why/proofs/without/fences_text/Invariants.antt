@@ -9,4 +9,4 @@ use Rattle.fs_app_why.proofs.without.fences_text.Given as goal
 abbrev pub invariant-loop-entry : goal.invariant-loop-entry
 invariant-loop-entry l =
     (ws : List Witness) → AllZip KeepsWitness l.files ws
-    → TellsFences l.test l.lines l.kinds ws (NoWitnessShows l.test ws) l.placement (take l.entry-index l.entry-items) (string_bytes l.text)
+    → TellsFences l.test l.lines l.telling l.kinds ws (NoWitnessShows l.test ws) l.placement (take l.entry-index l.entry-items) (string_bytes l.text)

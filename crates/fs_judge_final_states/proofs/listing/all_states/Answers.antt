@@ -36,11 +36,12 @@ returns-in_default-clause-shown c =
     subst (λ (ks : List State). All (IsShownState c.args.problem.now c.args.placement.now c.args.places.now) ks)
     (sym c.in_ok-listed.ensures) c.loop.invariant.0.shown
 
-pub returns-then-len-gt-MOST_STATES-clause-err : goal.returns-then-len-gt-MOST_STATES-clause-err
-returns-then-len-gt-MOST_STATES-clause-err c =
+pub returns-then-are_too_many-clause-err : goal.returns-then-are_too_many-clause-err
+returns-then-are_too_many-clause-err c =
     let known = c.loop.listing.known in
     let long = length-map known.entries state_in in
-    let more : most_states < length (states_in known) = omega (arith, c.if-len-gt-MOST_STATES.true, c.len.ensures.len, long) in
+    let over = c.are_too_many.ensures.more c.if-are_too_many.true in
+    let more : most_states < length (states_in known) = omega (arith, over, c.len.ensures.len, long) in
     λ other. inr (
       refl,
       (c.requires.clean, many c.args.problem.now c.args.placement.now c.args.places.now most_states (states_in known) c.loop.listing.parts.items c.loop.invariant.0 more),

@@ -1,0 +1,2 @@
+pub mod BadAtoms
+pub mod Bad

@@ -1,0 +1,19 @@
+use Rattle.std.proofs.Common.{◌++◌, ◌∙◌, arith, ap, flat_map, length, sym}
+use Rattle.std.specs.List.{range_with_len}
+use Rattle.fs_model.proofs.Numbered.{flat_map_range_more}
+use Rattle.fs_app_why_kinds.specs.Counted.{number_if}
+use Rattle.fs_app_why_kinds.proofs.counted.numbers_with.Goals as goal
+
+pub loop-number-preserved : goal.loop-number-preserved
+loop-number-preserved c =
+    let one = number_if c.args.telling c.args.kinds.now c.args.key in
+    let number = c.loop-number.number in
+    c.in_ok-push_number.ensures
+    ∙ ap (λ numbers. numbers ++ one number) c.loop-number.invariant
+    ∙ sym (flat_map_range_more one number)
+
+pub returns : goal.returns
+returns c =
+    c.loop-number.invariant
+    ∙ ap (λ n. flat_map (number_if c.args.telling c.args.kinds.now c.args.key) (range_with_len 0 n))
+    (omega (arith, c.loop-number-test.false, c.loop-number.auto.number-end))

@@ -1,0 +1,4 @@
+pub mod Words
+pub mod Arrows
+pub mod Told
+pub mod Counted

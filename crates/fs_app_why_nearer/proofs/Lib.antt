@@ -1,0 +1,2 @@
+pub mod FirstShown
+pub mod Reordering

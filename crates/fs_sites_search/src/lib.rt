@@ -1,0 +1,6 @@
+//! The search for the cheapest fences of sites that rule out the outcome of each test.
+#![tactic(auto)]
+
+mod rounds;
+
+pub use rounds::{refutations, solve, solve_broken};
