@@ -1,1 +1,11 @@
+pub mod Faults
+pub mod OneExecution
+pub mod Kept
+pub mod Lists
 pub mod Right
+pub mod FullyShown
+pub mod Widening
+pub mod Walks
+pub mod SiteWords
+pub mod Barred
+pub mod Judged

@@ -1,10 +1,9 @@
 -- A valid certificate's answer is right.
-use Rattle.std.proofs.Common.{◌≡◌, ℕ, zero, suc, Some, List, [], ◌∷◌, All, length, map, slice_get, refl, sym, ap, subst, ◌∙◌}
+use Rattle.std.proofs.Common.{◌≡◌, ℕ, zero, suc, Some, List, [], ◌∷◌, All, length, map, slice_get, sym, ap, subst}
 use Rattle.std.specs.List.{AllZip}
 use Rattle.fs_kinds.specs.declared.placement.Entry.{Entry}
-use Rattle.fs_kinds.specs.declared.slot.Slot.{Slot}
 use Rattle.fs_model.specs.Allows.{Allows}
-use Rattle.fs_board_offers.specs.Offers.{Offers, cost}
+use Rattle.fs_board_offers.specs.Offers.{Offers}
 use Rattle.fs_cert_evidence.specs.declared.evidence.Pairs.{Pairs}
 use Rattle.fs_cert_evidence.specs.declared.inference.Inference.{Inference}
 use Rattle.fs_cert_evidence.specs.Evidence.{widths_of}
