@@ -123,7 +123,12 @@ fn answer_alone<'a, R: Files + Input + AllocGlobal>(
     audited(rt.alloc(), papers, audit.write, audit.anew, limit)
 }
 
-/// Mends the only file; where there are several, none.
+/// Is it the name of a file, and not of standard input?
+fn names_a_file(word: &str) -> bool {
+    word != "-" && word != "stdin"
+}
+
+/// Mends the only file; where there are several, or standard input, none.
 fn answer_in_place<'a, R: Files + Input + Eprint + AllocGlobal>(
     rt: &R,
     audit: &'a Audit<'a>,
@@ -133,7 +138,7 @@ fn answer_in_place<'a, R: Files + Input + Eprint + AllocGlobal>(
 {
     let files = sources(rt, &audit.files)?;
     if let Some(word) = only(audit.files.as_slice()) {
-        if is_alone(word, &files) {
+        if names_a_file(word) && is_alone(word, &files) {
             return mend_in_place(rt, audit, word, papers);
         }
     }
