@@ -10,6 +10,7 @@ use Rattle.fs_report.specs.Objects.{AreOneAnswer}
 use Rattle.fs_app_solve.specs.Solve.{IsSolved}
 use Rattle.fs_app_sites.specs.Solved.{IsSolved as IsSitesSolved}
 use Rattle.fs_app_sites.specs.declared.content.File.{File}
+use Rattle.fs_app_sites_check.specs.Checked.{IsSitesChecked}
 use Rattle.fs_app_audit.specs.Audit.{IsAnew, IsAudited, IsWritten, IsFirstAnewFault, IsFirstAuditFault, IsFirstWrittenFault}
 use Rattle.fs_app_audit.specs.Blocks.{AreBlocks, are_named, blocks_status, blocks_text}
 use Rattle.fs_app_audit.specs.declared.blocks.Block.{Block}
@@ -29,6 +30,7 @@ use Rattle.fs_app_command_line.specs.declared.command.Solve.{Solve}
 use Rattle.fs_app_command_line.specs.declared.command.Sites.{Sites}
 use Rattle.fs_app_command_line.specs.declared.command.Audit.{Audit}
 use Rattle.fs_app_command_line.specs.declared.command.Check.{Check}
+use Rattle.fs_app_command_line.specs.declared.command.CheckSites.{CheckSites}
 use Rattle.fs_app_files.specs.declared.papers.Papers.{Papers}
 use Rattle.fs_app_files.specs.Judging.{AreJudged}
 use Rattle.fs_app_why_kinds.specs.declared.told.Telling.{Telling}
@@ -139,6 +141,16 @@ pub record AnswersCheck (check : Check) (papers : Papers) (output : Output) : Ty
       (λ telling. IsCertifiedWhy telling papers.test.bytes.items papers.evidence.bytes.items) below
   pub text : string_bytes output.text ≡ in_form check.json lines object ++ below
 
+-- the verdict on the certificate that was read, for some files and the prices that were read; or none, since a file has
+-- a fault
+pub data AnswersCheckSites (check : CheckSites) (papers : Papers) (output : Output) : Type 0 where
+  checked : (files : List File) (lines object : List ℕ) → papers.prices.name.now ≡ check.prices.now
+      → papers.evidence.name.now ≡ check.certificate.now
+      → IsSitesChecked files papers.prices.bytes.items papers.evidence.bytes.items lines output.status
+      → AreOneVerdict lines object → string_bytes output.text ≡ in_form check.json lines object
+      → AnswersCheckSites check papers output
+  refused : output.status ≡ Failure → AnswersCheckSites check papers output
+
 -- The text, but for what is told below it, and the status are those of the same lines. Each says what is true of some
 -- bytes, or of a file that wasn't read; what is told is told of these bytes.
 pub record AnswersLines (test : Test) (output : Output) : Type 0 where
@@ -169,4 +181,5 @@ Answers (task.Solve solve) papers output = AnswersSolve solve papers output
 Answers (task.Sites sites) papers output = AnswersSites sites papers output
 Answers (task.Audit audit) papers output = AnswersAudit audit papers output
 Answers (task.Check check) papers output = AnswersCheck check papers output
+Answers (task.CheckSites check) papers output = AnswersCheckSites check papers output
 Answers (task.Completions shell) papers output = output.status ≡ Success

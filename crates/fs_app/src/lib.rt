@@ -3,6 +3,7 @@
 
 mod audits;
 mod failure;
+mod pictures;
 mod program;
 mod progress;
 mod sites;
