@@ -1,0 +1,2 @@
+pub mod Unfenced
+pub mod Comparing
