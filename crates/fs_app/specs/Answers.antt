@@ -4,10 +4,11 @@ use Rattle.fs_app_io.specs.declared.source.Source.{Source}
 use Rattle.fs_app_io.specs.declared.status.Output.{Output}
 use Rattle.fs_app_io.specs.declared.status.Status.{Status}
 use Rattle.fs_app_io.specs.declared.status.Status.TheVariants.{Success, Denied, Failure}
-use Rattle.fs_app_place_order.specs.Place.{IsFencedText}
+use Rattle.fs_app_place_order.specs.Place.{ArePricesOf, IsFencedText}
 use Rattle.fs_app_place_order.specs.Order.{IsOrderAnswer}
 use Rattle.fs_report.specs.Objects.{AreOneAnswer}
 use Rattle.fs_app_solve.specs.Solve.{IsSolved}
+use Rattle.fs_app_solve_text.specs.Inserted.{IsInserted}
 use Rattle.fs_app_sites.specs.Solved.{IsSolved as IsSitesSolved}
 use Rattle.fs_app_sites.specs.declared.content.File.{File}
 use Rattle.fs_app_sites_check.specs.Checked.{IsSitesChecked}
@@ -15,6 +16,11 @@ use Rattle.fs_app_audit.specs.Audit.{IsAnew, IsAudited, IsWritten, IsFirstAnewFa
 use Rattle.fs_app_audit.specs.Blocks.{AreBlocks, are_named, blocks_status, blocks_text}
 use Rattle.fs_app_audit.specs.declared.blocks.Block.{Block}
 use Rattle.fs_kinds.specs.declared.fault.Fault.{Fault}
+use Rattle.fs_kinds.specs.declared.placement.Entry.{Entry}
+use Rattle.fs_kinds.specs.PriceTable.{PriceTable}
+use Rattle.fs_litmus.specs.Reads.{Reads}
+use Rattle.fs_model.specs.Allows.{IsCheapest}
+use Rattle.fs_model.specs.declared.test.Test.{Test as Program}
 use Rattle.fs_app_check.specs.Check.{IsChecked, AreOneVerdict}
 use Rattle.fs_app_test.specs.declared.said.Kind.{Kind}
 use Rattle.fs_app_test.specs.declared.said.Line.{Line}
@@ -76,10 +82,27 @@ pub record IsSolvedAndTold (is_json : Bool) (asked : Option Telling) (test price
   pub told : IsToldBy asked (λ telling. IsSolveWhy telling test prices lines output.status) below
   pub text : string_bytes output.text ≡ shown ++ below
 
+-- The test that the bytes read as has these fences at these prices: the first of the cheapest that rule its outcome out.
+-- The text is the file with them, or the fenced test in print.
+pub record IsFencedFile (test prices text : List ℕ) : Type 0 where
+  pub the_test : Program
+  pub table : PriceTable
+  pub placement : List Entry
+  pub reads : Reads test the_test
+  pub priced : ArePricesOf prices table
+  pub cheapest : IsCheapest the_test table placement
+  pub inserted : IsInserted test the_test placement text
+
+-- the answer, and what is told below it; or with `--write`, where the answer is fences, the file with these
+pub data IsSolveText (solve : Solve) (test prices : List ℕ) (output : Output) : Type 0 where
+  said : IsSolvedAndTold solve.json (telling_of solve.why) test prices output → IsSolveText solve test prices output
+  written : solve.write ≡ true → IsFencedFile test prices (string_bytes output.text) → output.status ≡ Success
+      → IsSolveText solve test prices output
+
 pub record AnswersSolve (solve : Solve) (papers : Papers) (output : Output) : Type 0 where
   pub test_name : papers.test.name.now ≡ solve.test.now
   pub prices_name : papers.prices.name.now ≡ solve.prices.now
-  pub answer : IsSolvedAndTold solve.json (telling_of solve.why) papers.test.bytes.items papers.prices.bytes.items output
+  pub answer : IsSolveText solve papers.test.bytes.items papers.prices.bytes.items output
 
 -- the answer to some files and the prices that were read; or no answer, since a file has a fault
 pub data AnswersSites (sites : Sites) (papers : Papers) (output : Output) : Type 0 where
@@ -146,8 +169,8 @@ pub record AnswersCheck (check : Check) (papers : Papers) (output : Output) : Ty
 pub data AnswersCheckSites (check : CheckSites) (papers : Papers) (output : Output) : Type 0 where
   checked : (files : List File) (lines object : List ℕ) → papers.prices.name.now ≡ check.prices.now
       → papers.evidence.name.now ≡ check.certificate.now
-      → IsSitesChecked files papers.prices.bytes.items papers.evidence.bytes.items lines output.status
-      → AreOneVerdict lines object → string_bytes output.text ≡ in_form check.json lines object
+      → IsSitesChecked files papers.prices.bytes.items papers.evidence.bytes.items lines object output.status
+      → string_bytes output.text ≡ in_form check.json lines object
       → AnswersCheckSites check papers output
   refused : output.status ≡ Failure → AnswersCheckSites check papers output
 

@@ -12,7 +12,8 @@ ghost use Rattle.fs_app_solve.specs.Found.{IsFound, Prints, lines_of};
 ghost use Rattle.fs_app_check.specs.Check.{IsChecked, AreOneVerdict, IsFirstCheckFault};
 ghost use Rattle.fs_app_test.specs.Report.{report_text, json_text};
 ghost use Rattle.fs_app_test.specs.Status.{report_status};
-ghost use Rattle.fs_app.specs.Answers.{IsSolvedAndTold, IsSolvedIn, offered, in_form, Answers, AnswersTest, AnswersPlace};
+ghost use Rattle.fs_app.specs.Answers.{IsSolveText, IsSolvedAndTold, IsSolvedIn, offered, in_form, Answers};
+ghost use Rattle.fs_app.specs.Answers.{AnswersTest, AnswersPlace};
 ghost use Rattle.fs_app.specs.Answers.{AnswersLines, AnswersOrder, AnswersSolve, AnswersCheck};
 ghost use Rattle.fs_app.specs.Telling.{is_yes, telling_of};
 
@@ -23,6 +24,7 @@ use crate::progress::Progress;
 use crate::sites::{answer_check_sites, answer_sites};
 use crate::states::{answer_log, answer_states};
 use crate::telling::{answer_why, is_yes, order_why, solve_why, telling_of, tests_why, with_below};
+use crate::write::fenced_file;
 use clap::error::ErrorKind;
 use fs_app_check::{Checked, run_check};
 use fs_app_command_line::{
@@ -496,7 +498,35 @@ fn answer_solve<'a, R: Files + Input + Eprint + AllocGlobal + Clock + Threads + 
     if voice.notes && found.is_free() {
         note_vacuous(rt, &papers.test.bytes)?;
     }
+    let output = said_or_written(rt.alloc(), solve, papers, &found, output)?;
     Ok(output)
+}
+
+/// What was said; or, where that is asked for and the answer is fences, the file with these.
+fn said_or_written(
+    alloc: Global,
+    solve: &Solve<'_>,
+    papers: &Papers<'_>,
+    found: &Found,
+    said: Output,
+) -> Result<Output, Fault>
+    requires found { (limit : ℕ) × IsFound papers.now.test.bytes.items papers.now.prices.bytes.items limit
+        (arc_value found.now.question) found.now.solved }
+    requires said { IsSolvedAndTold solve.now.json (telling_of solve.now.why) papers.now.test.bytes.items
+        papers.now.prices.bytes.items said }
+    ensures { IfOk result
+        (IsSolveText solve.now papers.now.test.bytes.items papers.now.prices.bytes.items) }
+{
+    if !solve.write {
+        return Ok(said);
+    }
+    match fenced_file(alloc, &papers.test.bytes, found)? {
+        Some(text) => Ok(Output {
+            text,
+            status: Status::Success,
+        }),
+        None => Ok(said),
+    }
 }
 
 /// Is a certificate of the answer asked for, or what one tells?

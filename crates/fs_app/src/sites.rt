@@ -5,7 +5,6 @@ ghost use Rattle.fs_app_io.specs.declared.status.Status.TheVariants.{Failure as 
 ghost use Rattle.fs_app_sites.specs.Solved.{IsSolved};
 ghost use Rattle.fs_app_sites.specs.declared.content.File.{File as SitesFile};
 ghost use Rattle.fs_app_sites_check.specs.Checked.{IsSitesChecked};
-ghost use Rattle.fs_app_check.specs.Check.{AreOneVerdict};
 ghost use Rattle.fs_app.specs.Answers.{AnswersSites, AnswersCheckSites};
 
 use crate::failure::Failure;
@@ -194,8 +193,7 @@ fn checked<'b, R: Files + Input + AllocGlobal>(
 ) -> Result<Checked, Fault>
     ensures { IfOk result (λ checked. (files : List SitesFile)
         × IsSitesChecked files papers.now.prices.bytes.items papers.now.evidence.bytes.items
-          (string_bytes checked.output.text) checked.output.status
-        × AreOneVerdict (string_bytes checked.output.text) (string_bytes checked.object)) }
+          (string_bytes checked.output.text) (string_bytes checked.object) checked.output.status) }
 {
     let files = read_files(rt, sources, blamed)?;
     let (prices, certificate) = (&papers.prices.bytes, &papers.evidence.bytes);
