@@ -1,5 +1,6 @@
 -- What is explained above the contradictions, where one that is told has it.
-use Rattle.std.specs.Prelude.{ℕ, ◌==◌, nat_lt, Bool, true, false, ◌&&◌, ◌||◌, not, is_some, Option, None, Some, List, length}
+use Rattle.std.specs.Prelude.{ℕ, ◌==◌, nat_lt, Bool, true, false, ◌&&◌, ◌||◌, not, is_some, Option, None, Some, List}
+use Rattle.std.specs.Prelude.{length}
 use Rattle.std.specs.List.{list_any}
 use Rattle.fs_instr.specs.declared.instr.Instr.{Instr}
 use Rattle.fs_model.specs.declared.test.Test.{Test}

@@ -13,7 +13,7 @@ ghost use Rattle.fs_app_why.specs.Contradictions.{told_text, unsaid_text};
 use crate::rows::{line_cell, name_cell};
 use crate::signs::{Sign, some_told};
 use crate::table::{Row, table_text};
-use crate::words::word_text;
+use crate::words::{loads, stores, word_text};
 use fs_app_test::value_text;
 use fs_app_why_kinds::{
     Telling, arrow_text, instr_named, instr_text, is_told, rest_text, told_place,
@@ -98,24 +98,6 @@ fn both_text(
     let loaded = loaded_text(alloc, locations, at, known)?;
     let stored = also_text(alloc, locations, known.stored)?;
     format!(in alloc; "{}{}", loaded.as_str(), stored.as_str())
-}
-
-pub(crate) fn loads(instr: &Instr) -> bool
-    ensures { result ≡ is_loading instr.now }
-{
-    matches!(
-        instr,
-        Instr::Lw { .. } | Instr::Lr { .. } | Instr::Amo { .. }
-    )
-}
-
-pub(crate) fn stores(instr: &Instr) -> bool
-    ensures { result ≡ is_storing instr.now }
-{
-    matches!(
-        instr,
-        Instr::Sw { .. } | Instr::Sc { .. } | Instr::Amo { .. }
-    )
 }
 
 fn does_there(

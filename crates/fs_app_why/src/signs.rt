@@ -5,7 +5,7 @@ ghost use Rattle.fs_app_why_kinds.specs.Told.{told_chain};
 ghost use Rattle.fs_app_why.specs.Signs.{halves_amo, halves_by, has_sign, has_sign_there, is_cycle, is_told_with};
 ghost use Rattle.fs_app_why.specs.Signs.{lacks_by, lacks_known, lacks_word, some_told};
 
-use crate::contradictions::{loads, stores};
+use crate::words::{loads, stores};
 use fs_app_why_kinds::{
     Telling, counts_before, counts_behind, if_amo, instr_named, is_told, told_place,
 };

@@ -1,6 +1,6 @@
 -- How many kinds aren't told, and in which a fence is needed.
-use Rattle.std.specs.Prelude.{ℕ, ◌+◌, ◌==◌, nat_lt, Bool, true, false, ◌&&◌, ◌||◌, not, Option, None, Some, option_map, List, [], ◌∷◌, ◌++◌, length, codes}
-use Rattle.std.specs.Prelude.{count_by, if◌then◌else◌}
+use Rattle.std.specs.Prelude.{ℕ, ◌+◌, ◌==◌, nat_lt, Bool, true, false, ◌&&◌, ◌||◌, not, Option, None, Some, option_map}
+use Rattle.std.specs.Prelude.{List, [], ◌∷◌, ◌++◌, length, codes, count_by, if◌then◌else◌}
 use Rattle.std.specs.Fmt.{decimal}
 use Rattle.std.specs.List.{flat_map, list_any}
 use Rattle.fs_model.specs.Numbers.{is_same, numbers_below}
@@ -58,8 +58,9 @@ is_sole_there key (Some chain) = is_sole_in key chain
 
 -- in the chain of the kind that is told, or only in others of the kind
 abbrev pub is_needed : Telling → (key : ℕ) → (in_told : Bool) → ChainKind → Bool
-is_needed telling key true kind = is_sole_there key (told_chain telling kind)
-is_needed telling key false kind = not (is_sole_there key (told_chain telling kind)) && is_sole key kind
+is_needed telling key in_told kind =
+    if in_told then is_sole_there key (told_chain telling kind)
+    else not (is_sole_there key (told_chain telling kind)) && is_sole key kind
 
 abbrev pub number_if : Bool → ℕ → List (List ℕ)
 number_if is_counted number = if is_counted then decimal number ∷ [] else []
@@ -87,8 +88,9 @@ module _ (telling : Telling) (kinds : List ChainKind) (key : ℕ) where
   count_more = count_by is_more (numbers_below (length kinds))
 
 abbrev pub cycles_word : (in_told : Bool) → (count : ℕ) → List ℕ
-cycles_word true count = if count == 1 then codes "in cycle " else codes "in cycles "
-cycles_word false count = if count == 1 then codes "in one like cycle " else codes "in ones like cycles "
+cycles_word in_told count =
+    if in_told then (if count == 1 then codes "in cycle " else codes "in cycles ")
+    else (if count == 1 then codes "in one like cycle " else codes "in ones like cycles ")
 
 abbrev pub cycles_piece : (in_told : Bool) → List (List ℕ) → List (List ℕ)
 cycles_piece in_told numbers =
@@ -100,8 +102,8 @@ more_piece count = if count == 0 then [] else (codes "in " ++ kinds_text count) 
 abbrev pub joined_pieces : List (List ℕ) → List ℕ
 joined_pieces pieces = if length pieces == 0 then [] else codes ": " ++ and_joined pieces
 
--- behind the name of the fence of this number: in which chains that are told it is needed, in which kinds only in others,
--- and in how many besides
+-- behind the name of the fence of this number: in which chains that are told it is needed, in which kinds that are told
+-- only in others, and in how many that aren't
 abbrev pub in_text : Telling → List ChainKind → (key : ℕ) → List ℕ
 in_text telling kinds key =
     joined_pieces (cycles_piece true (numbers_with telling kinds key true)

@@ -186,8 +186,12 @@ fn numbers_with(
 {
     let mut numbers = Vec::new(alloc);
     for number in 0..kinds.len() {
-        let is_counted = is_counted(telling, kinds, key, in_told, number);
-        push_number(alloc, is_counted, number + 1, &mut numbers)?;
+        push_number(
+            alloc,
+            is_counted(telling, kinds, key, in_told, number),
+            number + 1,
+            &mut numbers,
+        )?;
     }
     Ok(numbers)
 }
@@ -210,11 +214,16 @@ fn count_more(telling: Telling, kinds: &[ChainKind], key: u32) -> usize
 fn cycles_word(in_told: bool, count: usize) -> &'static str
     ensures { result.now ≡ cycles_word in_told count }
 {
-    match (in_told, count == 1) {
-        (true, true) => "in cycle ",
-        (true, false) => "in cycles ",
-        (false, true) => "in one like cycle ",
-        (false, false) => "in ones like cycles ",
+    if in_told {
+        if count == 1 {
+            "in cycle "
+        } else {
+            "in cycles "
+        }
+    } else if count == 1 {
+        "in one like cycle "
+    } else {
+        "in ones like cycles "
     }
 }
 
@@ -256,9 +265,9 @@ fn joined_pieces(alloc: Global, pieces: &[Name]) -> Result<String, AllocError>
     format!(in alloc; ": {}", joined.as_str())
 }
 
-/// In which of the kinds the fence of this number is needed: the numbers of those where it is in the chain that is told,
-/// and of those where it is only in others, and how many kinds more that aren't told. The cost is that of `rest_text`;
-/// the error is want of memory.
+/// In which of the kinds the fence of this number is needed: the numbers of those that need it in the chain that is
+/// told, and of those that do only in others, and how many that aren't told. The cost is that of `rest_text`; the error
+/// is want of memory.
 pub fn in_text(
     alloc: Global,
     telling: Telling,

@@ -9,7 +9,7 @@ loop-number-preserved c =
     let one = number_of c.args.telling c.args.kinds.now c.args.key c.args.in_told in
     let number = c.loop-number.number in
     c.in_ok-push_number.ensures
-    ∙ ap (λ is. c.loop-number.numbers.items ++ number_if is (number + 1)) c.is_counted-is_counted.ensures
+    ∙ ap (λ is. c.loop-number.numbers.items ++ number_if is (number + 1)) c.is_counted.ensures
     ∙ ap (λ numbers. numbers ++ one number) c.loop-number.invariant
     ∙ sym (flat_map_range_more one number)
 

@@ -5,4 +5,5 @@ use Rattle.fs_app_why_kinds.proofs.counted.numbers_with.Given as goal
 
 -- the kinds so far
 abbrev pub invariant-loop-number : goal.invariant-loop-number
-invariant-loop-number l = l.numbers.items ≡ flat_map (number_of l.telling l.kinds l.key l.in_told) (range_with_len 0 l.number)
+invariant-loop-number l =
+    l.numbers.items ≡ flat_map (number_of l.telling l.kinds l.key l.in_told) (range_with_len 0 l.number)
