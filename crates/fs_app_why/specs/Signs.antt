@@ -58,15 +58,15 @@ has_sign t sign.Unsaid chain = lacks_word t chain
 has_sign t sign.Halves chain = halves_amo t chain
 
 abbrev pub has_sign_there : Test → Sign → Option Chain → Bool
-has_sign_there t sign None = false
-has_sign_there t sign (Some chain) = has_sign t sign chain
+has_sign_there t asked None = false
+has_sign_there t asked (Some chain) = has_sign t asked chain
 
 -- the kind of this number is told, and its chain has it
 abbrev pub is_told_with : Test → Telling → List ChainKind → Sign → ℕ → Bool
-is_told_with t telling kinds sign number =
+is_told_with t telling kinds asked number =
     nat_lt number (length kinds)
-    && (is_told telling kinds number && has_sign_there t sign (told_chain telling (kind_at kinds number)))
+    && (is_told telling kinds number && has_sign_there t asked (told_chain telling (kind_at kinds number)))
 
 -- one that is told has it
 abbrev pub some_told : Test → Telling → List ChainKind → Sign → Bool
-some_told t telling kinds sign = list_any (is_told_with t telling kinds sign) (numbers_below (length kinds))
+some_told t telling kinds asked = list_any (is_told_with t telling kinds asked) (numbers_below (length kinds))
