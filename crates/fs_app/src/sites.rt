@@ -150,7 +150,10 @@ fn blame<'b>(
     blamed: &mut Papers<'b>,
 ) -> Result<(), Fault> {
     *blamed = Papers::new(alloc);
-    if !matches!(fault, Fault::TooManyTraces | Fault::Astray | Fault::TooManyCandidates) {
+    if !matches!(
+        fault,
+        Fault::TooManyTraces | Fault::Astray | Fault::TooManyCandidates
+    ) {
         return Ok(());
     }
     if let Some(number) = first_at_fault(alloc, files, prices, fault) {
@@ -193,7 +196,7 @@ fn checked<'b, R: Files + Input + AllocGlobal>(
 ) -> Result<Checked, Fault>
     ensures { IfOk result (λ checked. (files : List SitesFile)
         × IsSitesChecked files papers.now.prices.bytes.items papers.now.evidence.bytes.items
-          (string_bytes checked.output.text) (string_bytes checked.object) checked.output.status) }
+        (string_bytes checked.output.text) (string_bytes checked.object) checked.output.status) }
 {
     let files = read_files(rt, sources, blamed)?;
     let (prices, certificate) = (&papers.prices.bytes, &papers.evidence.bytes);
