@@ -7,7 +7,9 @@ use Rattle.fs_kinds.specs.Kind.{word}
 use Rattle.fs_model.specs.declared.test.Test.{Test}
 use Rattle.fs_model.specs.Execution.{code_of}
 use Rattle.fs_cert_evidence.specs.declared.evidence.Cause.{Cause}
-use Rattle.fs_cert_evidence.specs.declared.evidence.Cause.TheVariants.{Rule1, Rule2, Rule3, Rule4, Rule5, Rule6, Rule7, Rule8, Rule9, Rule10, Rule11, Rule12, Rule13, ReadsFrom, Coherence, FromReads}
+use Rattle.fs_cert_evidence.specs.declared.evidence.Cause.TheVariants.{Rule1, Rule2, Rule3, Rule4, Rule5, Rule6, Rule7}
+use Rattle.fs_cert_evidence.specs.declared.evidence.Cause.TheVariants.{Rule8, Rule9, Rule10, Rule11, Rule12, Rule13}
+use Rattle.fs_cert_evidence.specs.declared.evidence.Cause.TheVariants.{ReadsFrom, Coherence, FromReads}
 use Rattle.fs_region_ends.specs.declared.chain.Arrow.{Arrow}
 use Rattle.fs_region_ends.specs.declared.chain.Arrow.TheVariants.{Because, Forgotten, Pair, End}
 use Rattle.fs_region_ends.specs.declared.chain.ChainLink.{ChainLink}
@@ -60,8 +62,10 @@ label_of t cause fence = cause_label cause
 abbrev pub arrow_edges : Test → ChainLink → Arrow → List Edge
 arrow_edges t link (Because cause) =
     record { from = link.name; to = link.next; ink = ink_of cause; label = label_of t cause link.fence } ∷ []
-arrow_edges t link Forgotten = record { from = link.name; to = link.next; ink = ink.Rule; label = codes "load values" } ∷ []
-arrow_edges t link (Pair load) = record { from = load; to = link.name; ink = ink.Rule; label = codes "atomicity" } ∷ []
+arrow_edges t link Forgotten =
+    record { from = link.name; to = link.next; ink = ink.Rule; label = codes "load values" } ∷ []
+arrow_edges t link (Pair load) =
+    record { from = load; to = link.name; ink = ink.Rule; label = codes "atomicity" } ∷ []
 arrow_edges t link End = []
 
 abbrev pub link_edges : Test → ChainLink → List Edge

@@ -131,7 +131,10 @@ module _ (nodes : List Node) where
 abbrev pub head_text : (title : List ℕ) → List ℕ
 head_text title =
     codes "digraph G {\n  label=\"" ++ (quoted title
-    ++ codes "\"; labelloc=t; fontname=Helvetica; fontsize=14;\n  newrank=true; splines=polyline; nodesep=0.9; ranksep=0.65;\n  node [shape=box, fontname=Courier, fontsize=11, margin=\"0.1,0.05\"];\n  edge [fontname=Helvetica, fontsize=10];\n")
+    ++ (codes "\"; labelloc=t; fontname=Helvetica; fontsize=14;\n"
+    ++ (codes "  newrank=true; splines=polyline; nodesep=0.9; ranksep=0.65;\n"
+    ++ (codes "  node [shape=box, fontname=Courier, fontsize=11, margin=\"0.1,0.05\"];\n"
+    ++ codes "  edge [fontname=Helvetica, fontsize=10];\n"))))
 
 abbrev pub dot_text : (title : List ℕ) → List Node → List Edge → List ℕ
 dot_text title nodes edges =

@@ -1,3 +1,4 @@
 pub mod Quoted
 pub mod Dot
 pub mod Chains
+pub mod Pictures

@@ -2,10 +2,10 @@
 
 ghost use Rattle.std.specs.Prelude.{◌≡◌, ◌++◌, IfOk, OnOk, string_bytes};
 ghost use Rattle.std.specs.List.{flat_map, list_any};
-ghost use Rattle.fs_app_pictures.specs.Dot.{are_ends, cluster_at, cluster_text, color, dashes, dot_text, edge_text, grey};
-ghost use Rattle.fs_app_pictures.specs.Dot.{head_text, is_behind, is_near, is_next, joins, leads, name_in, node_of};
-ghost use Rattle.fs_app_pictures.specs.Dot.{node_text, order_between, order_from, order_style, order_text, pair_text};
-ghost use Rattle.fs_app_pictures.specs.Dot.{rank_at, rank_text, reach, same_name, starts_near, style_text};
+ghost use Rattle.fs_app_pictures.specs.Dot.{are_ends, cluster_at, cluster_text, color, dashes, dot_text, edge_text};
+ghost use Rattle.fs_app_pictures.specs.Dot.{grey, head_text, is_behind, is_near, is_next, joins, leads, name_in};
+ghost use Rattle.fs_app_pictures.specs.Dot.{node_of, node_text, order_between, order_from, order_style, order_text};
+ghost use Rattle.fs_app_pictures.specs.Dot.{pair_text, rank_at, rank_text, reach, same_name, starts_near, style_text};
 
 use crate::picture::{Edge, Ink, Node};
 use crate::quoted::quoted;

@@ -9,7 +9,7 @@ use fs_cand_witness::{Rows, operation_name};
 use fs_cert_evidence::Cause;
 use fs_check::OrderedCandidate;
 use fs_hart::steps_of;
-use fs_kinds::{OperationName, Placement, Slot};
+use fs_kinds::{Classes, OperationName, Placement, Slot};
 use fs_model::{Name, Operation, Test};
 use fs_ppo::is_edge;
 use fs_region_ends::{Fence, fence_orders};
@@ -311,6 +311,22 @@ fn push_found(
     push_edge(ordered, (found.a, found.b), ink, label, edges)
 }
 
+/// The letter of a fence for this, or both where either will do.
+fn letters(classes: Classes) -> &'static str {
+    match (classes.reads, classes.writes) {
+        (true, true) => "r|w",
+        (true, false) => "r",
+        (false, true) => "w",
+        (false, false) => "",
+    }
+}
+
+/// Which fence would keep the two in the order of the code.
+fn turned_label(alloc: Global, a: Operation, b: Operation) -> Result<Name, AllocError> {
+    let (first, second) = (letters(a.classes()), letters(b.classes()));
+    Ok(Name::new(format!(in alloc; "not kept: no {},{}", first, second)?))
+}
+
 /// Appends that the two stand so in the code and come the other way round, if they do.
 fn push_turned(
     alloc: Global,
@@ -319,8 +335,10 @@ fn push_turned(
     edges: &mut Vec<Edge>,
 ) -> Result<(), AllocError> {
     let (a, b) = pair;
-    if operation(ordered, a).precedes(&operation(ordered, b)) && ordered.order.stands_before(b, a) {
-        push_edge(ordered, pair, Ink::Turned, named(alloc, "not kept")?, edges)?;
+    let (first, second) = (operation(ordered, a), operation(ordered, b));
+    if first.precedes(&second) && ordered.order.stands_before(b, a) {
+        let label = turned_label(alloc, first, second)?;
+        push_edge(ordered, pair, Ink::Turned, label, edges)?;
     }
     Ok(())
 }

@@ -1,10 +1,9 @@
 //! The picture of a contradiction, and of an execution.
 
-ghost use Rattle.std.specs.Prelude.{◌≡◌, List as Items, IfOk, string_bytes};
-ghost use Rattle.fs_app_pictures.specs.declared.picture.Edge.{Edge as Arrow};
-ghost use Rattle.fs_app_pictures.specs.declared.picture.Node.{Node as Box};
+ghost use Rattle.std.specs.Prelude.{◌≡◌, IfOk, string_bytes};
 ghost use Rattle.fs_app_pictures.specs.Chains.{chain_edges};
 ghost use Rattle.fs_app_pictures.specs.Dot.{dot_text};
+ghost use Rattle.fs_app_pictures.specs.Pictures.{IsChainPicture, IsPicture};
 
 use crate::chain::{chain_edges, instr_at};
 use crate::dot::dot_text;
@@ -135,8 +134,7 @@ pub fn chain_picture(
     lines: &[List<usize>],
     links: &[ChainLink],
 ) -> Result<String, AllocError>
-    ensures { IfOk result (λ text. (nodes : Items Box)
-        × (string_bytes text ≡ dot_text title.now nodes (chain_edges test.now links.now))) }
+    ensures { IfOk result (λ text. IsChainPicture test.now title.now links.now (string_bytes text)) }
 {
     let shown = on_chain(alloc, test, lines, links)?;
     let nodes = nodes(alloc, test, lines, &shown)?;
@@ -154,8 +152,7 @@ pub fn execution_picture(
     lines: &[List<usize>],
     ordered: &OrderedCandidate,
 ) -> Result<String, AllocError>
-    ensures { IfOk result (λ text. (nodes : Items Box) × (edges : Items Arrow)
-        × (string_bytes text ≡ dot_text title.now nodes edges)) }
+    ensures { IfOk result (λ text. IsPicture title.now (string_bytes text)) }
 {
     let shown = in_order(alloc, test, lines, ordered)?;
     let nodes = nodes(alloc, test, lines, &shown)?;
