@@ -94,13 +94,8 @@ module _ (t : Test) (title : List ℕ) where
   -- without the fence of this kind in the slot; none where no witness shows the outcome so
   abbrev pub IsWithout : List Witness → List Entry → Slot → Kind → Option Picture → Type 0
   IsWithout ws p slot kind =
-<<<<<<< HEAD
-      IsOneOf (IsToldOfFirst ws (with_kind slot None p)) (NoWitnessShows t ws (with_kind slot None p)) (without_name slot)
-      (without_title title slot kind)
-=======
       IsOneOf (IsToldOfFirst ws (with_kind slot None p)) (NoWitnessShows t ws (with_kind slot None p))
       (without_name slot) (without_title title slot kind)
->>>>>>> dot/main
 
   -- of a slot without a fence none
   abbrev pub IsOfEntry : List Witness → List Entry → Slot → Option Kind → Option Picture → Type 0

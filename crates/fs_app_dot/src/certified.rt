@@ -66,12 +66,8 @@ fn told_pictures(
 ) -> Result<Vec<Picture>, Fault>
     requires { IsTest page.test.now }
     ensures told { (ws : Items Witness) → AllZip KeepsWitness files.now ws → IfOk result (λ pictures.
-<<<<<<< HEAD
-        AreOfKindsAndFences page.test.now page.title.now telling placement.now kinds.now ws pictures.items) }
-=======
         AreOfKindsAndFences page.entry.test.now page.entry.title.now telling placement.now kinds.now ws
         pictures.items) }
->>>>>>> dot/main
     ensures err { IsOkUnless result Memory }
 {
     let mut pictures = kind_pictures(alloc, page, telling, kinds)?;
@@ -105,11 +101,7 @@ fn placed_pictures(
     requires is_test { IsTest (arc_value test.now) }
     requires same { page.test.now ≡ arc_value test.now }
     ensures told { (c : Said) → KeepsCertificate certificate.now c → IfOk result (λ pictures.
-<<<<<<< HEAD
-        AreUnless (lacks_placed telling placement.now) (AreOfPlaced (arc_value test.now) page.title.now telling
-=======
         AreUnless (lacks_placed telling placement.now) (AreOfPlaced (arc_value test.now) page.entry.title.now telling
->>>>>>> dot/main
         placement.now c.cycles c.witnesses) pictures.items) }
     ensures err { IfErr result (λ f. f ≢ Memory → IsRunFault (arc_value test.now) f) }
 {
@@ -192,13 +184,8 @@ fn answer_pictures(
 /// kind of contradiction that is told, by the name `cycle-1`, `stale-1` or `not-atomic-1` with the kind's number there;
 /// then of each fence that is told an execution without it, as `without-P0-3`, if a witness has one. Of `none` an
 /// execution with `rw,rw` in every slot, by the name `execution`, if the first witness has one. The faults are
-<<<<<<< HEAD
-/// `BadCertificate`, those of `read_test`, `BadFence` where a word names no slot of the test, and those of `Basis::new`.
-/// The cost is that of `why_certified`, and of `chain_picture` and `execution_picture` for each.
-=======
 /// `BadCertificate`, those of `read_test`, `BadFence` where a word names no slot of the test, and those of
 /// `Basis::new`. The cost is that of `why_certified`, and of `chain_picture` and `execution_picture` for each.
->>>>>>> dot/main
 pub fn certified_pictures(
     alloc: Global,
     title: &str,

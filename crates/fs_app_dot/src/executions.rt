@@ -19,11 +19,7 @@ pub(crate) fn drawn(
     ordered: &OrderedCandidate,
 ) -> Result<Picture, AllocError>
     ensures named { IfOk result (λ picture. string_bytes picture.name ≡ name.now) }
-<<<<<<< HEAD
-    ensures drawn { IfOk result (λ picture. IsPicture page.title.now (string_bytes picture.text)) }
-=======
     ensures drawn { IfOk result (λ picture. IsPicture page.entry.title.now (string_bytes picture.text)) }
->>>>>>> dot/main
 {
     let name = String::from_str(alloc, name)?;
     let text = execution_picture(alloc, page.title, page.test, placement, page.lines, ordered)?;

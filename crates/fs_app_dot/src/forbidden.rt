@@ -40,11 +40,7 @@ fn inferred_pictures(
     requires same { page.test.now ≡ arc_value test.now }
     ensures told { IfOk result (λ pictures. (kinds : Items Kinds)
         × AreKinds (arc_value test.now) placement.now (Inferred (map inference_of inferences.now)) kinds
-<<<<<<< HEAD
-        × AreOfKinds (arc_value test.now) page.title.now telling kinds pictures.items) }
-=======
         × AreOfKinds (arc_value test.now) page.entry.title.now telling kinds pictures.items) }
->>>>>>> dot/main
     ensures err { IfErr result (λ f. f ≢ Memory → IsRunFault (arc_value test.now) f) }
 {
     let kinds = inferred_kinds(alloc, test, placement, inferences)?;
@@ -65,11 +61,7 @@ fn shown_pictures(
     requires same { page.test.now ≡ arc_value test.now }
     requires shows { Forbid (arc_value test.now) placement.now (cycles_of cycles.now) }
     ensures told { IfOk result (λ pictures.
-<<<<<<< HEAD
-        AreOfRefutation (arc_value test.now) page.title.now telling placement.now pictures.items) }
-=======
         AreOfRefutation (arc_value test.now) page.entry.title.now telling placement.now pictures.items) }
->>>>>>> dot/main
     ensures err { IfErr result (λ f. f ≢ Memory → IsRunFault (arc_value test.now) f) }
 {
     match cycles {
@@ -91,11 +83,7 @@ fn judged_pictures(
     requires is_test { IsTest (arc_value test.now) }
     requires same { page.test.now ≡ arc_value test.now }
     ensures told { IfOk result (λ pictures.
-<<<<<<< HEAD
-        AreOfVerdict (arc_value test.now) page.title.now telling placement.now pictures.items) }
-=======
         AreOfVerdict (arc_value test.now) page.entry.title.now telling placement.now pictures.items) }
->>>>>>> dot/main
     ensures err { IfErr result (λ f. f ≢ Memory → IsCandidateFault (arc_value test.now) f) }
 {
     match verdict_on(alloc, test, placement)? {

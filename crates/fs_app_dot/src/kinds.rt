@@ -57,13 +57,8 @@ fn chain_text(
     number: usize,
     chain: &Chain,
 ) -> Result<String, AllocError>
-<<<<<<< HEAD
-    ensures { IfOk result (λ text. IsChainPicture page.test.now (chain_title page.title.now number chain.now.shape)
-        (told_links chain.now) (string_bytes text)) }
-=======
     ensures { IfOk result (λ text. IsChainPicture page.entry.test.now
         (chain_title page.entry.title.now number chain.now.shape) (told_links chain.now) (string_bytes text)) }
->>>>>>> dot/main
 {
     let title = chain_title(alloc, page.title, number, chain.shape)?;
     let links = told_links(alloc, chain)?;
@@ -71,11 +66,7 @@ fn chain_text(
 }
 
 fn drawn(alloc: Global, page: Page<'_>, number: usize, chain: &Chain) -> Result<Picture, AllocError>
-<<<<<<< HEAD
-    ensures { IfOk result (IsDrawn page.test.now page.title.now number chain.now) }
-=======
     ensures { IfOk result (IsDrawn page.entry.test.now page.entry.title.now number chain.now) }
->>>>>>> dot/main
 {
     let name = chain_name(alloc, number, chain.shape)?;
     let text = chain_text(alloc, page, number, chain)?;
@@ -110,11 +101,7 @@ fn numbered_picture(
     number: usize,
 ) -> Result<Option<Picture>, AllocError>
     requires { number < length kinds.now }
-<<<<<<< HEAD
-    ensures { IfOk result (IsOfNumber page.test.now page.title.now telling kinds.now number) }
-=======
     ensures { IfOk result (IsOfNumber page.entry.test.now page.entry.title.now telling kinds.now number) }
->>>>>>> dot/main
 {
     match told_there(telling, kinds, number) {
         Some(chain) => {
@@ -134,11 +121,7 @@ pub(crate) fn kind_pictures(
     kinds: &[ChainKind],
 ) -> Result<Vec<Picture>, AllocError>
     ensures { IfOk result (λ pictures.
-<<<<<<< HEAD
-        AreOfKinds page.test.now page.title.now telling kinds.now pictures.items) }
-=======
         AreOfKinds page.entry.test.now page.entry.title.now telling kinds.now pictures.items) }
->>>>>>> dot/main
 {
     let mut pictures = Vec::new(alloc);
     for number in 0..kinds.len() {

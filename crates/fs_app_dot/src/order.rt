@@ -27,13 +27,8 @@ fn given_picture(
 ) -> Result<Option<Picture>, Fault>
     requires { IsTest page.test.now }
     ensures shown { (w : Witness) → KeepsWitness file.now w → IfOk result (IsOneOf
-<<<<<<< HEAD
-        (ShowsAs page.test.now placement.now w) (IsShownBy page.test.now placement.now w → ⊥) execution_name
-        page.title.now) }
-=======
         (ShowsAs page.entry.test.now placement.now w) (IsShownBy page.entry.test.now placement.now w → ⊥) execution_name
         page.entry.title.now) }
->>>>>>> dot/main
     ensures err { IsOkUnless result Memory }
 {
     match shown_by(alloc, page.test, placement, file)? {
@@ -54,13 +49,8 @@ fn given_pictures(
 ) -> Result<Vec<Picture>, Fault>
     requires { IsTest page.test.now }
     ensures shown { (w : Witness) → KeepsWitness file.now w → IfOk result (λ pictures. IsListOf (IsOneOf
-<<<<<<< HEAD
-        (ShowsAs page.test.now placement.now w) (IsShownBy page.test.now placement.now w → ⊥) execution_name
-        (execution_title page.title.now)) pictures.items) }
-=======
         (ShowsAs page.entry.test.now placement.now w) (IsShownBy page.entry.test.now placement.now w → ⊥) execution_name
         (execution_title page.entry.title.now)) pictures.items) }
->>>>>>> dot/main
     ensures err { IsOkUnless result Memory }
 {
     let title = execution_title(alloc, page.title)?;

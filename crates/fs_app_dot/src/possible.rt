@@ -41,13 +41,8 @@ fn witness_picture(
 ) -> Result<Option<Picture>, Fault>
     requires { IsTest page.test.now }
     ensures shown { (w : Witness) → KeepsWitness file.now w → IfOk result (IsOneOf
-<<<<<<< HEAD
-        (IsToldOf page.test.now placement.now w) (IsShownBy page.test.now placement.now w → ⊥) execution_name
-        page.title.now) }
-=======
         (IsToldOf page.entry.test.now placement.now w) (IsShownBy page.entry.test.now placement.now w → ⊥)
         execution_name page.entry.title.now) }
->>>>>>> dot/main
     ensures err { IsOkUnless result Memory }
 {
     match nearer(alloc, page.test, placement, None, file)? {
@@ -68,13 +63,8 @@ fn witness_pictures(
 ) -> Result<Vec<Picture>, Fault>
     requires { IsTest page.test.now }
     ensures shown { (w : Witness) → KeepsWitness file.now w → IfOk result (λ pictures. IsListOf (IsOneOf
-<<<<<<< HEAD
-        (IsToldOf page.test.now placement.now w) (IsShownBy page.test.now placement.now w → ⊥) execution_name
-        page.title.now) pictures.items) }
-=======
         (IsToldOf page.entry.test.now placement.now w) (IsShownBy page.entry.test.now placement.now w → ⊥)
         execution_name page.entry.title.now) pictures.items) }
->>>>>>> dot/main
     ensures err { IsOkUnless result Memory }
 {
     let found = witness_picture(alloc, page, placement, file)?;

@@ -55,11 +55,7 @@ fn drawn_without(
     requires { IsTrue (has_slot slot placement.now) }
     ensures named { IfOk result (λ picture. string_bytes picture.name ≡ without_name slot) }
     ensures drawn { IfOk result (λ picture.
-<<<<<<< HEAD
-        IsPicture (without_title page.title.now slot kind) (string_bytes picture.text)) }
-=======
         IsPicture (without_title page.entry.title.now slot kind) (string_bytes picture.text)) }
->>>>>>> dot/main
     ensures err { IsOkUnless result Memory }
 {
     let other = without(placement, slot)?;
@@ -86,11 +82,7 @@ fn without_picture(
     requires test { IsTest page.test.now }
     requires there { IsTrue (has_slot slot placement.now) }
     ensures shown { (ws : Items Witness) → AllZip KeepsWitness files.now ws
-<<<<<<< HEAD
-        → IfOk result (IsWithout page.test.now page.title.now ws placement.now slot kind) }
-=======
         → IfOk result (IsWithout page.entry.test.now page.entry.title.now ws placement.now slot kind) }
->>>>>>> dot/main
     ensures err { IsOkUnless result Memory }
 {
     match first_without(alloc, page.test, placement, slot, files)? {
@@ -113,11 +105,7 @@ fn entry_picture(
     requires test { IsTest page.test.now }
     requires there { IsTrue (has_slot entry.slot placement.now) }
     ensures shown { (ws : Items Witness) → AllZip KeepsWitness files.now ws
-<<<<<<< HEAD
-        → IfOk result (IsOfEntry page.test.now page.title.now ws placement.now entry.slot entry.kind) }
-=======
         → IfOk result (IsOfEntry page.entry.test.now page.entry.title.now ws placement.now entry.slot entry.kind) }
->>>>>>> dot/main
     ensures err { IsOkUnless result Memory }
 {
     match entry.kind {
@@ -156,11 +144,7 @@ pub(crate) fn fence_pictures(
 ) -> Result<Vec<Picture>, Fault>
     requires { IsTest page.test.now }
     ensures shown { (ws : Items Witness) → AllZip KeepsWitness files.now ws → IfOk result (λ pictures.
-<<<<<<< HEAD
-        AreOfFences page.test.now page.title.now telling ws placement.now placement.now pictures.items) }
-=======
         AreOfFences page.entry.test.now page.entry.title.now telling ws placement.now placement.now pictures.items) }
->>>>>>> dot/main
     ensures err { IsOkUnless result Memory }
 {
     let mut pictures = Vec::new(alloc);
