@@ -1,9 +1,12 @@
 -- Why a value is no certificate over sites, or no witness of one; and that each witness that was read is said.
-use Rattle.std.proofs.Common.{◌≡◌, ℕ, List, [], ◌∷◌, All, Some, refl, subst}
+use Rattle.std.proofs.Common.{◌≡◌, ℕ, ◌==◌, Bool, List, [], ◌∷◌, All, Some, length, refl, sym, subst}
+use Rattle.std.specs.Bool.{Decides}
 use Rattle.std.specs.List.{AllZip}
 use Rattle.std.proofs.lemmas.List.Elements.{All-nil, All-cons}
 use Rattle.serde_json.specs.Data.{Data, no_items}
 use Rattle.serde_json.specs.Find.{as_array}
+use Rattle.serde_json.specs.View.{items_view}
+use Rattle.serde_json.specs.declared.value.Value.{Value}
 use Rattle.fs_model.specs.Witness.{Witness}
 use Rattle.fs_cert_evidence.specs.CertificateFile.{IsAnswerValue, IsInference, IsNumber}
 use Rattle.fs_cert_evidence.specs.WitnessFile.{IsArrayOf, IsChoice, IsName, IsWitnessValue}
@@ -14,6 +17,13 @@ use Rattle.fs_sites_check.specs.declared.certificate.SitesCertificate.{SitesCert
 use Rattle.fs_sites_check.specs.declared.certificate.SitesWitness.{SitesWitness}
 use Rattle.fs_app_sites_check.specs.Kept.{KeepsSaid, KeepsTestWitness}
 use Rattle.fs_app_sites_check.specs.SitesFile.{HasParts, IsSitesValue, IsTestWitness, Said, SayWitness, TestWitness}
+
+-- ---- arrays of nothing
+
+pub none_left : (d : Data) (vs : List Value) (b : Bool) → Some (items_view vs) ≡ as_array d → b ≡ (length vs == 0)
+    → Decides b (as_array d ≡ Some no_items)
+none_left d [] b is none = ((λ _. sym is), λ _. none)
+none_left d (v ∷ vs) b is none = ((λ e. absurd (cc)), λ e. absurd (cc))
 
 -- ---- certificates
 

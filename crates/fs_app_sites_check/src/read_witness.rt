@@ -4,7 +4,7 @@ ghost use Rattle.std.specs.Prelude.{◌≡◌, IfOk, IfErr, IsErrOf, MatchOption
 ghost use Rattle.serde_json.specs.Data.{Data};
 ghost use Rattle.serde_json.specs.View.{view};
 ghost use Rattle.fs_model.specs.Witness.{Witness};
-ghost use Rattle.fs_cert_evidence.specs.WitnessFile.{KeepsWitness};
+ghost use Rattle.fs_cert_evidence.specs.WitnessFile.{IsWitnessValue, KeepsWitness};
 ghost use Rattle.fs_cert_json.specs.Kept.{IsCertificateFault};
 ghost use Rattle.fs_cert_json.specs.inner.Written.{witness_object};
 ghost use Rattle.fs_app_sites_check.specs.Kept.{KeepsTestWitness};
@@ -60,6 +60,18 @@ fn certificate_fault(fault: Fault) -> Fault
     }
 }
 
+/// The witness that the value says, as in a witness file.
+fn witness_in(alloc: Global, value: &Value) -> Result<WitnessFile, Fault>
+    ensures ok { IfOk result (λ kept. (w : Witness) × IsWitnessValue (view value.now) w × KeepsWitness kept w) }
+    ensures bad { IsErrOf result Fault.BadCertificate → (w : Witness) → ¬ IsWitnessValue (view value.now) w }
+    ensures err { IfErr result IsCertificateFault }
+{
+    match witness_of(alloc, value) {
+        Ok(witness) => Ok(witness),
+        Err(fault) => Err(certificate_fault(fault)),
+    }
+}
+
 /// The witness that values of choices and of an order say.
 fn read_pair(alloc: Global, choices: &Value, order: &Value) -> Result<WitnessFile, Fault>
     ensures ok { IfOk result (λ kept. (w : Witness) × SayWitness (view choices.now) (view order.now) w
@@ -69,10 +81,7 @@ fn read_pair(alloc: Global, choices: &Value, order: &Value) -> Result<WitnessFil
     ensures err { IfErr result IsCertificateFault }
 {
     let pair = pair_of(alloc, choices, order)?;
-    match witness_of(alloc, &pair) {
-        Ok(witness) => Ok(witness),
-        Err(fault) => Err(certificate_fault(fault)),
-    }
+    witness_in(alloc, &pair)
 }
 
 /// The witness that the value says, with the number of its test.

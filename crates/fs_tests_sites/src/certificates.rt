@@ -7,15 +7,32 @@ use std::alloc::{AllocError, Global};
 use std::test::Fail;
 
 /// Message passing, with one site in both harts.
-const PASSING: &str =
-    "RISCV MP\n{ 0:x6=x; 0:x7=y; 1:x6=x; 1:x7=y; }\n P0 | P1 ;\n ori x5,x0,1 | lw x8,0(x7) ;\n sw x5,0(x6) | bar_1: lw x9,0(x6) ;\n bar_0: sw x5,0(x7) | ;\nexists (1:x8=1 /\\ 1:x9=0)\n";
+const PASSING: &str = "RISCV MP
+{ 0:x6=x; 0:x7=y; 1:x6=x; 1:x7=y; }
+ P0 | P1 ;
+ ori x5,x0,1 | lw x8,0(x7) ;
+ sw x5,0(x6) | bar_1: lw x9,0(x6) ;
+ bar_0: sw x5,0(x7) | ;
+exists (1:x8=1 /\\ 1:x9=0)
+";
 
 /// Store buffering, with a site in each hart.
-const BUFFERING: &str =
-    "RISCV SB\n{ 0:x6=x; 0:x7=y; 1:x6=x; 1:x7=y; }\n P0 | P1 ;\n ori x5,x0,1 | ori x5,x0,1 ;\n sw x5,0(x6) | sw x5,0(x7) ;\n bar: lw x8,0(x7) | full: lw x8,0(x6) ;\nexists (0:x8=0 /\\ 1:x8=0)\n";
+const BUFFERING: &str = "RISCV SB
+{ 0:x6=x; 0:x7=y; 1:x6=x; 1:x7=y; }
+ P0 | P1 ;
+ ori x5,x0,1 | ori x5,x0,1 ;
+ sw x5,0(x6) | sw x5,0(x7) ;
+ bar: lw x8,0(x7) | full: lw x8,0(x6) ;
+exists (0:x8=0 /\\ 1:x8=0)
+";
 
 /// The outcome is allowed whatever stands at the site.
-const OPEN: &str = "RISCV OPEN\n{ 0:x6=x; }\n P0 ;\n bar: lw x8,0(x6) ;\nexists (0:x8=0)\n";
+const OPEN: &str = "RISCV OPEN
+{ 0:x6=x; }
+ P0 ;
+ bar: lw x8,0(x6) ;
+exists (0:x8=0)
+";
 
 const PRICES: &str = "{\"r,r\":2,\"w,w\":3,\"w,r\":4,\"rw,rw\":9}";
 
@@ -68,8 +85,25 @@ fn shown(alloc: Global, texts: &[&str], old: &str, new: &str) -> Result<String, 
 }
 
 /// What is said of each row of `ROWS`.
-const WANTED: &str =
-    "yes\nfenced 9\nsite bar rw,rw\nyes\nfenced 8\nsite bar w,r\nsite full w,r\nyes\nfenced 13\nsite bar rw,rw\nsite full w,r\nyes\nnone\nT\n{\"choices\":[[0]],\"order\":[\"P0:0\"]}\nfault F18 BadCertificatefault F18 BadCertificateno: answer\nno: cycles 1\nno: witness 0\n";
+const WANTED: &str = "yes
+fenced 9
+site bar rw,rw
+yes
+fenced 8
+site bar w,r
+site full w,r
+yes
+fenced 13
+site bar rw,rw
+site full w,r
+yes
+none
+T
+{\"choices\":[[0]],\"order\":[\"P0:0\"]}
+fault F18 BadCertificatefault F18 BadCertificateno: answer
+no: cycles 1
+no: witness 0
+";
 
 /// Tests, and what is changed in the certificate of their answer.
 const ROWS: &[(&[&str], &str, &str)] = &[
