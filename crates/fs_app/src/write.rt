@@ -25,7 +25,7 @@ pub(crate) fn fenced_file(
 {
     match &found.solved.answer {
         Answer::Fenced { forbidden, .. } => {
-            let text = inserted(alloc, test, &found.question.test, &forbidden.placement)?;
+            let text = inserted(alloc, test, found.question.test(), &forbidden.placement)?;
             Ok(Some(text))
         }
         Answer::None { .. } => Ok(None),
