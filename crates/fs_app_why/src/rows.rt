@@ -58,12 +58,7 @@ fn stored_by(alloc: Global, told: &Told, a: u8, source: u8) -> Result<String, Al
 }
 
 /// The same, if there is such a store.
-fn source_text(
-    alloc: Global,
-    told: &Told,
-    a: u8,
-    source: Option<u8>,
-) -> Result<String, AllocError>
+fn source_text(alloc: Global, told: &Told, a: u8, source: Option<u8>) -> Result<String, AllocError>
     ensures { IfOk result (λ text. string_bytes text ≡ source_text told.now a source) }
 {
     match source {

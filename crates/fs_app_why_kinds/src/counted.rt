@@ -106,7 +106,11 @@ fn rest_by(alloc: Global, untold: usize, bare: usize) -> Result<String, AllocErr
 pub fn rest_text(alloc: Global, telling: Telling, kinds: &[ChainKind]) -> Result<String, AllocError>
     ensures { IfOk result (λ text. string_bytes text ≡ rest_text telling kinds.now) }
 {
-    rest_by(alloc, count_untold(telling, kinds), count_bare(telling, kinds))
+    rest_by(
+        alloc,
+        count_untold(telling, kinds),
+        count_bare(telling, kinds),
+    )
 }
 
 // ---- in which of them a fence is needed
@@ -146,13 +150,7 @@ fn is_needed(telling: Telling, kind: &ChainKind, key: u32, in_told: bool) -> boo
 }
 
 /// Is the kind of this number told, and the fence needed there?
-fn is_counted(
-    telling: Telling,
-    kinds: &[ChainKind],
-    key: u32,
-    in_told: bool,
-    number: usize,
-) -> bool
+fn is_counted(telling: Telling, kinds: &[ChainKind], key: u32, in_told: bool, number: usize) -> bool
     ensures { result ≡ is_counted telling kinds.now key in_told number }
 {
     number < kinds.len()
