@@ -145,11 +145,17 @@ fn tells_there(kind: &ChainKind, hart: u8, at: u8) -> bool
         .any(|chain| has_there(chain, hart, at))
 }
 
+fn some_fenced(kinds: &[ChainKind]) -> bool
+    ensures { result ≡ list_any has_fence kinds.now }
+{
+    kinds.iter().any(|kind| has_fence(kind))
+}
+
 /// Is it one of the first, and has none a fence?
 fn is_first_bare(kinds: &[ChainKind], number: usize) -> bool
     ensures { result ≡ is_first_bare kinds.now number }
 {
-    number < FEW_KINDS && !kinds.iter().any(|kind| has_fence(kind))
+    number < FEW_KINDS && !some_fenced(kinds)
 }
 
 fn is_told_by(telling: Telling, kinds: &[ChainKind], number: usize) -> bool
