@@ -208,8 +208,7 @@ each test out. A site's fence is paid once:
 
 Elsewhere no fence is placed. Below `none` stands first the file whose outcome is shown, even
 with rw,rw at every site. --json has sites in place of fences, and the file. PRICES have no
-weights then, and there is no --write, --why or --dot. With --workers N up to N tests are judged
-at once.
+weights then, and there is no --workers, --write, --why or --dot.
 
 PRICES offers kinds, each for 1 to 1000000, and rw,rw must be one of them, as in
 {\"w,w\":2,\"rw,rw\":10}. Slots may have weights that multiply the price.
@@ -269,12 +268,6 @@ above what is said of it, and an empty line below. A last line counts them:
 
 There a fault stands in the place of a file's lines, and the status is 1 where it is of
 some file, else 2, else 4, else 0. --write and -i take one file.
-
-With --json it prints a JSON object for each file, a line each, and nothing counts them:
-
-  {\"anew\":18,\"file\":\"examples/tests/SB-fenced.litmus\",\"in place\":18,\"lines\":[{\"advised\":
-  \"w,r\",\"line\":11,\"place\":\"P0:2\",\"says\":\"w,r is enough\",\"written\":\"rw,rw\"},..],
-  \"verdict\":\"forbidden\",\"written\":20}
 
 Exit status:
   0  each FENCE is needed; with -i, the file is as advised
@@ -420,7 +413,7 @@ const QUIET_HELP: &str = "Say nothing on standard error but a line for what is w
 const VERBOSE_HELP: &str = "Explain a fault: where it is, and what was expected";
 
 const SITES_HELP: &str =
-    "Find fences of labelled sites, for all tests given; not with --write, --why, --dot";
+    "Find fences of labelled sites, for all tests given; not with --workers, --write, --why, --dot";
 
 const CHECK_SITES_HELP: &str =
     "Of labelled sites, and any number of files before PRICES; not with --why, --dot";
@@ -480,8 +473,7 @@ impl Task<'_> {
             Task::Sites(sites) => sites.json,
             Task::Check(check) => check.json,
             Task::CheckSites(check) => check.json,
-            Task::Audit(audit) => audit.json,
-            Task::Place(_) | Task::Order(_) | Task::Completions(_) => false,
+            Task::Place(_) | Task::Order(_) | Task::Audit(_) | Task::Completions(_) => false,
         }
     }
 }
@@ -600,8 +592,6 @@ pub struct Solve<'a> {
 pub struct Sites<'a> {
     pub files: Vec<String>,
     pub prices: &'a str,
-    /// How many threads judge tests: from 1 to 16.
-    pub workers: u8,
     /// How many nodes each plan may make: from 1 to 1,000,000.
     pub nodes: u32,
     /// Where a certificate of the answer is to be written.
@@ -625,8 +615,6 @@ pub struct Audit<'a> {
     pub jobs: u8,
     /// How many nodes the search may make: from 1 to 1,000,000.
     pub nodes: u32,
-    /// Whether JSON is to be printed.
-    pub json: bool,
 }
 
 /// What `check` was asked for.
@@ -830,7 +818,6 @@ fn sites_of<'a>(alloc: Global, found: &ArgMatches<'a>) -> Result<Sites<'a>, Allo
     Ok(Sites {
         files: words_of(alloc, found, "FILE")?,
         prices: found.get_str("PRICES").unwrap_or(""),
-        workers: found.get_one::<u8>("workers").unwrap_or(ONE_WORKER),
         nodes: found.get_one::<u32>("nodes").unwrap_or(MOST_NODES),
         certificate: found.get_str("cert"),
         json: found.get_flag("json"),
@@ -846,7 +833,6 @@ fn audit_of<'a>(alloc: Global, found: &ArgMatches<'a>) -> Result<Audit<'a>, Allo
         in_place: found.get_flag("in-place"),
         jobs: found.get_one::<u8>("jobs").unwrap_or(ONE_WORKER),
         nodes: found.get_one::<u32>("nodes").unwrap_or(MOST_NODES),
-        json: found.get_flag("json"),
     })
 }
 
@@ -992,7 +978,7 @@ struct Parameter {
     help: &'static str,
 }
 
-const PARAMETERS: [Parameter; 45] = [
+const PARAMETERS: [Parameter; 44] = [
     Parameter {
         command: "test",
         name: "FILE",
@@ -1155,13 +1141,6 @@ const PARAMETERS: [Parameter; 45] = [
         help: NODES_HELP,
     },
     Parameter {
-        command: "audit",
-        name: "json",
-        form: Form::Flag,
-        value: "",
-        help: LINES_HELP,
-    },
-    Parameter {
         command: "states",
         name: "FILE",
         form: Form::Words,
@@ -1317,7 +1296,7 @@ struct Conflict {
     other: &'static str,
 }
 
-const CONFLICTS: [Conflict; 16] = [
+const CONFLICTS: [Conflict; 15] = [
     Conflict {
         command: "test",
         name: "why",
@@ -1327,6 +1306,11 @@ const CONFLICTS: [Conflict; 16] = [
         command: "solve",
         name: "why",
         other: "json",
+    },
+    Conflict {
+        command: "solve",
+        name: "sites",
+        other: "workers",
     },
     Conflict {
         command: "solve",
@@ -1367,16 +1351,6 @@ const CONFLICTS: [Conflict; 16] = [
         command: "audit",
         name: "in-place",
         other: "write",
-    },
-    Conflict {
-        command: "audit",
-        name: "json",
-        other: "write",
-    },
-    Conflict {
-        command: "audit",
-        name: "json",
-        other: "in-place",
     },
     Conflict {
         command: "states",
