@@ -4,7 +4,7 @@ ghost use Rattle.std.specs.Prelude.{◌≡◌, ◌≢◌, ◌++◌, IsTrue, IfOk
 ghost use Rattle.fs_kinds.specs.declared.fault.Fault.TheVariants.{Memory};
 ghost use Rattle.fs_app_io.specs.declared.status.Status.TheVariants.{Success};
 ghost use Rattle.fs_sites.specs.Answers.{IsAnswer, IsSolveFault};
-ghost use Rattle.fs_sites.specs.Questions.{IsQuestion};
+ghost use Rattle.fs_sites.specs.Questions.{IsPart, IsQuestion};
 ghost use Rattle.fs_app_check.specs.Check.{yes_line};
 ghost use Rattle.fs_app_sites.specs.Printed.{answer_text, status_of};
 ghost use Rattle.fs_app_sites.specs.Solved.{IsFirstSitesFault, IsSolved};
@@ -14,9 +14,10 @@ use crate::check::run_sites_check;
 use crate::write::{Grounds, certificate_text};
 use fs_app_check::Checked;
 use fs_app_io::Status;
-use fs_app_sites::{Asked, File, Solved, answer_text, read_question, solved_of};
-use fs_kinds::Fault;
-use fs_sites::{Answer, Question};
+use fs_app_sites::{File, Solved, answer_text, read_question, solved_of};
+use fs_cert_evidence::Inference;
+use fs_kinds::{Fault, List};
+use fs_sites::{Answer, Part, Question};
 use fs_sites_search::{refutations, solve_broken};
 use std::alloc::{AllocError, Global};
 
@@ -71,11 +72,24 @@ fn answer_of(
     ensures err { IfErr result (λ f. f ≢ Memory → IsSolveFault question.now.parts f) }
 {
     let (answer, broken) = solve_broken(alloc, question, most_rounds, most_steps)?;
-    let cycles = match &answer {
-        Answer::Fenced { placement, .. } => refutations(alloc, &question.parts, placement)?,
-        Answer::None { .. } => Vec::new(alloc),
-    };
+    let parts = question.parts.as_slice();
+    let cycles = cycles_of(alloc, parts, &answer)?;
     Ok((answer, Grounds { cycles, broken }))
+}
+
+/// For each test the inferences of a refutation of it under the answer; nothing where that is none.
+fn cycles_of(
+    alloc: Global,
+    parts: &[Part],
+    answer: &Answer,
+) -> Result<Vec<List<Inference>>, Fault>
+    requires { All IsPart parts.now }
+    ensures { IfErr result (λ f. f ≢ Memory → IsSolveFault parts.now f) }
+{
+    match answer {
+        Answer::Fenced { placement, .. } => refutations(alloc, parts, placement),
+        Answer::None { .. } => Ok(Vec::new(alloc)),
+    }
 }
 
 /// The certificate's text, where `run_sites_check` accepts it with this answer. The error is F19.
