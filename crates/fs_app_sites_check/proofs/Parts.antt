@@ -1,11 +1,12 @@
 -- Why a value is no certificate over sites, or no witness of one; and that each witness that was read is said.
-use Rattle.std.proofs.Common.{◌≡◌, ℕ, ◌==◌, Bool, List, [], ◌∷◌, All, Some, length, refl, sym, subst}
+use Rattle.std.proofs.Common.{◌≡◌, ℕ, ◌==◌, Bool, true, List, [], ◌∷◌, All, Some, length, refl, sym, subst, ◌∙◌, arith}
+use Rattle.std.proofs.lemmas.Bool.Decides.{nat_tests}
 use Rattle.std.specs.Bool.{Decides}
 use Rattle.std.specs.List.{AllZip}
 use Rattle.std.proofs.lemmas.List.Elements.{All-nil, All-cons}
-use Rattle.serde_json.specs.Data.{Data, no_items}
+use Rattle.serde_json.specs.Data.{Data, Items, item, no_items}
 use Rattle.serde_json.specs.Find.{as_array}
-use Rattle.serde_json.specs.View.{items_view}
+use Rattle.serde_json.specs.View.{items_view, view}
 use Rattle.serde_json.specs.declared.value.Value.{Value}
 use Rattle.fs_model.specs.Witness.{Witness}
 use Rattle.fs_cert_evidence.specs.CertificateFile.{IsAnswerValue, IsInference, IsNumber}
@@ -20,10 +21,19 @@ use Rattle.fs_app_sites_check.specs.SitesFile.{HasParts, IsSitesValue, IsTestWit
 
 -- ---- arrays of nothing
 
+is_none : (n : ℕ) → (n == 0) ≡ true → n ≡ 0
+is_none n e = grind (arith, nat_tests)
+
+other : (first : Data) (others : Items) → Some (item first others) ≡ Some no_items → ⊥
+other first others is = absurd (cc)
+
 pub none_left : (d : Data) (vs : List Value) (b : Bool) → Some (items_view vs) ≡ as_array d → b ≡ (length vs == 0)
     → Decides b (as_array d ≡ Some no_items)
 none_left d [] b is none = ((λ _. sym is), λ _. none)
-none_left d (v ∷ vs) b is none = ((λ e. absurd (cc)), λ e. absurd (cc))
+none_left d (v ∷ vs) b is none = (
+  (λ e. let few = is_none (length (v ∷ vs)) (sym none ∙ e) in absurd (omega (arith, few))),
+  λ e. absurd (other (view v) (items_view vs) (is ∙ e)),
+)
 
 -- ---- certificates
 
@@ -53,22 +63,22 @@ sections_at d answer cycles tree version witnesses c has h =
 
 -- ---- witnesses
 
-pub record SaysParts (lists names number : Data) (w : TestWitness) : Type 0 where
+pub record SaysParts (lists names test : Data) (w : TestWitness) : Type 0 where
   pub of_witness : SayWitness lists names w.witness
-  pub of_test : IsNumber number w.test
+  pub of_test : IsNumber test w.test
 
-pub parts_at : (d lists names number : Data) (w : TestWitness) → HasParts d lists names number → IsTestWitness d w
-    → SaysParts lists names number w
-parts_at d lists names number w has h =
+pub parts_at : (d lists names test : Data) (w : TestWitness) → HasParts d lists names test → IsTestWitness d w
+    → SaysParts lists names test w
+parts_at d lists names test w has h =
     let to_lists : h.lists ≡ lists = (let l = h.parts.at_choices in let r = has.at_choices in cc) in
     let to_names : h.names ≡ names = (let l = h.parts.at_order in let r = has.at_order in cc) in
-    let to_number : h.number ≡ number = (let l = h.parts.at_test in let r = has.at_test in cc) in
+    let to_test : h.number ≡ test = (let l = h.parts.at_test in let r = has.at_test in cc) in
     record {
       of_witness = (
         subst (λ e. IsArrayOf (IsArrayOf IsChoice) e w.witness.choices) to_lists h.says.0,
         subst (λ e. IsArrayOf IsName e w.witness.order) to_names h.says.1,
       );
-      of_test = subst (λ e. IsNumber e w.test) to_number h.test;
+      of_test = subst (λ e. IsNumber e w.test) to_test h.test;
     }
 
 -- an object as in a witness file says what its values say

@@ -107,25 +107,26 @@ fn certificate_of(
 {
     let text = certificate_text(alloc, names, answer, grounds)?;
     let lines = answer_text(alloc, files, names, answer, false)?;
-    if is_accepted(alloc, files, prices, text.as_str(), lines.as_str())? {
-        Ok(Some(text))
-    } else {
-        Ok(None)
+    let holds = is_accepted(alloc, files, prices, text.as_bytes(), lines.as_str())?;
+    if !holds {
+        return Ok(None);
     }
+    Ok(Some(text))
 }
 
-/// Does `run_sites_check` accept the text, and print these lines below `yes`? The error is F19.
+/// Does `run_sites_check` accept the bytes, and print these lines below `yes`? The error is F19.
 fn is_accepted(
     alloc: Global,
     files: &[File],
     prices: &[u8],
-    text: &str,
+    certificate: &[u8],
     lines: &str,
 ) -> Result<bool, Fault>
-    ensures ok { IfOk result (λ holds. IsTrue holds → IsAccepted files.now prices.now text.now lines.now) }
+    ensures ok { IfOk result (λ holds. IsTrue holds
+        → IsAccepted files.now prices.now certificate.now lines.now) }
     ensures err { IfErr result (λ f. f ≡ Memory) }
 {
-    match run_sites_check(alloc, files, prices, text.as_bytes()) {
+    match run_sites_check(alloc, files, prices, certificate) {
         Ok(checked) => Ok(is_yes(alloc, &checked, lines)?),
         Err(Fault::Memory) => Err(Fault::Memory),
         Err(_) => Ok(false),

@@ -52,7 +52,6 @@ pub(crate) fn is_fifth(value: &Value) -> bool
 }
 
 /// Is the value an array of nothing?
-#[tactic(auto, using(crate::proofs::Parts::none_left))]
 pub(crate) fn is_empty(value: &Value) -> bool
     ensures { Decides result (as_array (view value.now) ≡ Some no_items) }
 {

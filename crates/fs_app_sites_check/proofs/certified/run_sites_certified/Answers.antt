@@ -9,10 +9,10 @@ pub returns-in_err-asked-clause-fault : goal.returns-in_err-asked-clause-fault
 returns-in_err-asked-clause-fault c =
     IfErr-handed c.from_residual.result _ _ c.from_residual.ensures.1 (first-asked _ _ _ c.in_err-asked.ensures.fault)
 
-pub returns-in_err-answer_of-clause-fault : goal.returns-in_err-answer_of-clause-fault
-returns-in_err-answer_of-clause-fault c =
-    IfErr-handed c.from_residual-in_err-answer_of.result _ _ c.from_residual-in_err-answer_of.ensures.1
-    (first-search _ _ _ _ _ c.in_ok-asked.ensures.ok c.in_err-answer_of.ensures.err)
+pub returns-in_err-answer-clause-fault : goal.returns-in_err-answer-clause-fault
+returns-in_err-answer-clause-fault c =
+    IfErr-handed c.from_residual-in_err-answer.result _ _ c.from_residual-in_err-answer.ensures.1
+    (first-search _ _ _ _ _ c.in_ok-asked.ensures.ok c.in_err-answer.ensures.err)
 
 pub returns-in_err-solved-clause-fault : goal.returns-in_err-solved-clause-fault
 returns-in_err-solved-clause-fault c =
@@ -28,11 +28,11 @@ pub returns-clause-ok : goal.returns-clause-ok
 returns-clause-ok c =
     let asked = asked-again _ _ _ string_bytes _ _ c.as_slice-names.ensures c.in_ok-asked.ensures.ok in
     is-solved _ _ _ (map string_bytes c.as_slice-names.result.now) _ _ _ _ asked
-    c.in_ok-answer_of.ensures.ok c.in_ok-solved.ensures.text c.in_ok-solved.ensures.status
+    c.in_ok-answer.ensures.ok c.in_ok-solved.ensures.text c.in_ok-solved.ensures.status
 
 pub returns-clause-certificate : goal.returns-clause-certificate
 returns-clause-certificate c =
     let asked = asked-again _ _ _ string_bytes _ _ c.as_slice-names.ensures c.in_ok-asked.ensures.ok in
     each_certified _ _ _ (map string_bytes c.as_slice-names.result.now) _ _ _ _ _ asked
-    c.in_ok-answer_of.ensures.ok c.in_ok-solved.ensures.text c.in_ok-solved.ensures.status
+    c.in_ok-answer.ensures.ok c.in_ok-solved.ensures.text c.in_ok-solved.ensures.status
     c.in_ok-certificate.ensures.ok

@@ -1,4 +1,4 @@
-use Rattle.std.proofs.Common.{refl, map}
+use Rattle.std.proofs.Common.{refl, map, rules}
 use Rattle.serde_json.specs.View.{view}
 use Rattle.fs_kinds.specs.declared.fault.Fault.TheVariants.{BadCertificate}
 use Rattle.fs_cert_evidence.specs.Inferences.{inference_of}

@@ -1,0 +1,5 @@
+use Rattle.fs_app_sites_check.proofs.Parts.{none_left}
+use Rattle.fs_app_sites_check.proofs.values.is_empty.Goals as goal
+
+pub returns-in-Some : goal.returns-in-Some
+returns-in-Some c = none_left _ _ _ c.in-Some.ensures c.is_empty.ensures
