@@ -1,5 +1,7 @@
 -- What `solve --write` prints.
-use Rattle.std.proofs.Common.{◌≡◌, ℕ, List, subst, sym}
+use Rattle.std.proofs.Common.{◌≡◌, ◌∙◌, ℕ, List, ap, subst, sym}
+use Rattle.fs_kinds.specs.declared.placement.Entry.{Entry}
+use Rattle.fs_model.specs.declared.test.Test.{Test}
 use Rattle.fs_litmus.specs.Reads.{Reads}
 use Rattle.fs_cert_evidence.specs.Evidence.{placement_in}
 use Rattle.fs_board_offers.specs.Questions.{Question}
@@ -17,11 +19,14 @@ module _ (test prices : List ℕ) (limit : ℕ) (asked : Question) (s : Solved) 
   reads-asked = subst (λ (q : Question). Reads test q.test) (sym is.found.question) is.reads
 
   -- with the fences of the answer
-  pub fenced-file : (f : _) (n : ℕ) (text : List ℕ) → s.answer ≡ answer.Fenced f n
-      → IsInserted test asked.test (placement_in f) text → IsFencedFile test prices text
-  fenced-file f n text same inserted =
+  pub fenced-file : (f : _) (n : ℕ) (own : Test) (p : List Entry) (text : List ℕ) → s.answer ≡ answer.Fenced f n
+      → own ≡ asked.test → p ≡ placement_in f → IsInserted test own p text → IsFencedFile test prices text
+  fenced-file f n own p text same own-is p-is inserted =
       let priced : IsPricedAnswer is.the_test is.table s.answer =
           priced-answer is.the_test is.table asked s.answer is.found.question is.found.answer in
+      let here : IsInserted test is.the_test (placement_in f) text =
+          subst (λ (t : Test). IsInserted test t (placement_in f) text)
+          (own-is ∙ ap (λ (q : Question). q.test) is.found.question) (subst (λ (q : List Entry). IsInserted test own q text) p-is inserted) in
       record {
         the_test = is.the_test;
         table = is.table;
@@ -29,5 +34,5 @@ module _ (test prices : List ℕ) (limit : ℕ) (asked : Question) (s : Solved) 
         reads = is.reads;
         priced = is.priced;
         cheapest = (subst (IsPricedAnswer is.the_test is.table) same priced).0;
-        inserted = subst (λ (q : Question). IsInserted test q.test (placement_in f) text) is.found.question inserted;
+        inserted = here;
       }
