@@ -27,7 +27,7 @@ returns-clause-told c said kept =
     let p = c.args.placement.now in
     let kinds = c.in_ok-kinds.kinds.items in
     let P = AreOfPlaced t title telling p said.cycles said.witnesses in
-    let files = subst (λ those. AllZip KeepsWitness those said.witnesses) (sym c.as_slice.ensures) kept.witnesses in
+    let files = subst (λ those. AllZip KeepsWitness those said.witnesses) (sym c.as_slice-files.ensures) kept.witnesses in
     subst (λ (lacks : Bool). IfOk c.told_pictures.result (λ pictures. AreUnless lacks P pictures.items))
     (sym c.if-lacks_placed.false ∙ c.lacks_placed.ensures)
     (IfOk-weaker c.told_pictures.result _ _
