@@ -20,7 +20,7 @@ module _ (files : List File) (prices : List ℕ) where
       → IsCertified is_json files prices text status certificate
   certified q names is_json text status found certificate asked answer shown ends accepted =
       let is : q ≡ question_of asked.table (names_of asked.contents) asked.contents =
-          asked.asks ∙ ap (λ ns. question_of asked.table ns asked.contents) asked.named in
+      asked.asks ∙ ap (λ ns. question_of asked.table ns asked.contents) asked.named in
       record {
         solved = record {
           contents = asked.contents;

@@ -78,11 +78,7 @@ fn answer_of(
 }
 
 /// For each test the inferences of a refutation of it under the answer; nothing where that is none.
-fn cycles_of(
-    alloc: Global,
-    parts: &[Part],
-    answer: &Answer,
-) -> Result<Vec<List<Inference>>, Fault>
+fn cycles_of(alloc: Global, parts: &[Part], answer: &Answer) -> Result<Vec<List<Inference>>, Fault>
     requires { All IsPart parts.now }
     ensures { IfErr result (λ f. f ≢ Memory → IsSolveFault parts.now f) }
 {
