@@ -152,7 +152,7 @@ fn blame<'b>(
     *blamed = Papers::new(alloc);
     if !matches!(
         fault,
-        Fault::TooManyTraces | Fault::Astray | Fault::TooManyCandidates
+        Fault::TooManyTraces | Fault::Astray { .. } | Fault::TooManyCandidates
     ) {
         return Ok(());
     }
