@@ -23,10 +23,10 @@ module _ (test prices : List ℕ) (limit : ℕ) (asked : Question) (s : Solved) 
       → own ≡ asked.test → p ≡ placement_in f → IsInserted test own p text → IsFencedFile test prices text
   fenced-file f n own p text same own-is p-is inserted =
       let priced : IsPricedAnswer is.the_test is.table s.answer =
-          priced-answer is.the_test is.table asked s.answer is.found.question is.found.answer in
+      priced-answer is.the_test is.table asked s.answer is.found.question is.found.answer in
       let here : IsInserted test is.the_test (placement_in f) text =
-          subst (λ (t : Test). IsInserted test t (placement_in f) text)
-          (own-is ∙ ap (λ (q : Question). q.test) is.found.question) (subst (λ (q : List Entry). IsInserted test own q text) p-is inserted) in
+      subst (λ (t : Test). IsInserted test t (placement_in f) text)
+      (own-is ∙ ap (λ (q : Question). q.test) is.found.question) (subst (λ (q : List Entry). IsInserted test own q text) p-is inserted) in
       record {
         the_test = is.the_test;
         table = is.table;

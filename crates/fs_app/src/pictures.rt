@@ -1,5 +1,9 @@
 //! Pictures of what is told below answers, written into a folder as files for Graphviz's `dot`.
 
+ghost use Rattle.std.specs.Prelude.{ℕ};
+ghost use Rattle.std.specs.Arc.{arc_value};
+ghost use Rattle.fs_app_solve.specs.Found.{IsFound};
+
 use crate::telling::{telling_of, test_at};
 use fs_app_command_line::Why;
 use fs_app_dot::{
@@ -103,7 +107,10 @@ pub(crate) fn draw_found<R: Files + AllocGlobal>(
     why: Why<'_>,
     papers: &Papers<'_>,
     found: &Found,
-) -> Result<(), Fault> {
+) -> Result<(), Fault>
+    requires { (limit : ℕ) × IsFound papers.now.test.bytes.items papers.now.prices.bytes.items limit
+        (arc_value found.now.question) found.now.solved }
+{
     let certificate = found.certificate(rt.alloc())?;
     draw_certified(rt, folder, why, papers, certificate.as_bytes())
 }
