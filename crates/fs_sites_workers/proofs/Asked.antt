@@ -1,0 +1,86 @@
+-- From what is said at seats to what holds of the tests of a question.
+use Rattle.std.proofs.Common.{◌≡◌, ◌≢◌, ◌<◌, ◌+◌, ℕ, inl, inr, arith, [], ◌∷◌, Option, None, Some, MatchOption, Result, Ok, Err, IfOk, IfErr, List, All, length, slice_get, sym, ap, subst, ◌∙◌}
+use Rattle.std.proofs.lemmas.Bool.{cases_lt}
+use Rattle.std.proofs.lemmas.Option.{slice_get_within, get_or_from_slice_get}
+use Rattle.fs_kinds.specs.declared.fault.Fault.{Fault}
+use Rattle.fs_kinds.specs.declared.fault.Fault.TheVariants.{Memory}
+use Rattle.fs_kinds.specs.declared.placement.Entry.{Entry}
+use Rattle.fs_model.specs.declared.test.Test.{Test}
+use Rattle.fs_model.specs.Allows.{Allows}
+use Rattle.fs_cert_evidence.specs.CandidateFaults.{IsCandidateFault}
+use Rattle.fs_cert_evidence.specs.Evidence.{Shown}
+use Rattle.fs_sites.specs.Answers.{IsPartFault, IsShownIn, IsShownUnder}
+use Rattle.fs_sites.specs.Questions.{AllowsIn, Part, image}
+use Rattle.fs_sites_workers.specs.Seats.{Asked, FailsAt, ForbidBelow, ForbidsAt, IsAskedIn, IsOfTest, IsPlaceOf, IsSaid, ShowsAt}
+
+-- ---- what a seat says
+
+module _ (seats : List Asked) (number place : ℕ) (is : IsPlaceOf seats number place) where
+  pub said-ok : (r : Result (Option Shown) Fault) → IsSaid is.seat.test is.seat.fences r
+      → IfOk r (λ found. MatchOption found (ForbidsAt seats number) (ShowsAt seats number))
+  said-ok (Ok None) said = record { place = place; is = is; forbids = said }
+  said-ok (Ok (Some w)) said = record { place = place; is = is; shown = said }
+  said-ok (Err f) said = tt
+
+  pub said-err : (r : Result (Option Shown) Fault) → IsSaid is.seat.test is.seat.fences r
+      → IfErr r (λ f. f ≢ Memory → FailsAt seats f)
+  said-err (Ok found) said = tt
+  said-err (Err f) said = λ other. record { number = number; place = place; is = is; fails = said other }
+
+-- one test more
+pub forbid-more : (seats : List Asked) (number : ℕ) → ForbidsAt seats number → ForbidBelow seats number → ForbidBelow seats (number + 1)
+forbid-more seats number here before other low = elim (cases_lt other number) [
+  | inl less ↦ before other less
+  | inr most ↦ (let same : number ≡ other = omega (arith, low, most) in subst (ForbidsAt seats) same here)
+]
+
+-- ---- what seats say of a question
+
+pub of-tests : (parts : List Part) (p : List Entry) (seats : List Asked) → All (IsAskedIn parts p) seats → All (IsOfTest parts) seats
+of-tests parts p seats are k d low = let is = are k d low in record { part = is.part; at = is.at; test = is.test }
+
+module _ (parts : List Part) (p : List Entry) (seats : List Asked) (are : All (IsAskedIn parts p) seats) where
+  asked-at : (k : ℕ) (seat : Asked) → slice_get seats k ≡ Some seat → IsAskedIn parts p seat
+  asked-at k seat at = subst (IsAskedIn parts p) (get_or_from_slice_get seats k seat seat at) (are k seat (slice_get_within seats k seat at))
+
+  asked-of : (number place : ℕ) (is : IsPlaceOf seats number place) → IsAskedIn parts p is.seat
+  asked-of number place is = asked-at place is.seat is.at
+
+  pub shown-in : (number : ℕ) (w : Shown) → ShowsAt seats number w → IsShownIn parts p number w
+  shown-in number w at =
+      let seat = at.is.seat in
+      let asked = asked-of number at.place at.is in (
+        asked.part,
+        subst (λ n. slice_get parts n ≡ Some asked.part) at.is.same asked.at,
+        subst (λ (t : Test). IsShownUnder t (image asked.part.places p) w) asked.test
+        (subst (λ (fences : List Entry). IsShownUnder seat.test fences w) asked.fences at.shown),
+      )
+
+  pub all-shown-in : (found : List (ℕ × Shown)) → All (λ shown. ShowsAt seats shown.0 shown.1) found
+      → All (λ shown. IsShownIn parts p shown.0 shown.1) found
+  all-shown-in found at k d low = shown-in _ _ (at k d low)
+
+  -- the fault of a seat is one of a test
+  pub fails-in : (f : Fault) → FailsAt seats f → IsPartFault parts f
+  fails-in f at =
+      let asked = asked-of at.number at.place at.is in (
+        at.is.seat.number,
+        asked.part,
+        asked.at,
+        subst (λ (t : Test). IsCandidateFault t f) asked.test at.fails,
+      )
+
+  pub forbid-in : ForbidBelow seats (length parts) → AllowsIn parts p → ⊥
+  forbid-in forbid allows =
+      let number = allows.0 in
+      let part = allows.1 in
+      let at = forbid number (slice_get_within parts number part allows.2) in
+      let seat = at.is.seat in
+      let asked = asked-of number at.place at.is in
+      let here : slice_get parts number ≡ Some asked.part = subst (λ n. slice_get parts n ≡ Some asked.part) at.is.same asked.at in
+      let there : slice_get parts number ≡ Some part = allows.2 in
+      let same : part ≡ asked.part = cc in
+      at.forbids
+      (subst (λ (t : Test). Allows t seat.fences) (sym asked.test)
+      (subst (λ (fences : List Entry). Allows asked.part.test fences) (sym asked.fences)
+      (subst (λ (x : Part). Allows x.test (image x.places p)) same allows.3)))
