@@ -1,7 +1,8 @@
 -- From what is said at seats to what holds of the tests of a question.
-use Rattle.std.proofs.Common.{◌≡◌, ◌≢◌, ◌<◌, ◌+◌, ℕ, inl, inr, arith, [], ◌∷◌, Option, None, Some, MatchOption, Result, Ok, Err, IfOk, IfErr, List, All, length, slice_get, sym, ap, subst, ◌∙◌}
+use Rattle.std.proofs.Common.{◌≡◌, ◌≢◌, ◌<◌, ◌+◌, ℕ, inl, inr, arith, refl, [], ◌∷◌, Option, None, Some, MatchOption, Result, Ok, Err, IfOk, IfErr, List, All, length, slice_get, sym, ap, subst, ◌∙◌}
 use Rattle.std.proofs.lemmas.Bool.{cases_lt}
-use Rattle.std.proofs.lemmas.Option.{slice_get_within, get_or_from_slice_get}
+use Rattle.std.specs.Prelude.{get_or}
+use Rattle.std.proofs.lemmas.Option.{slice_get_within, slice_get_read, get_or_from_slice_get}
 use Rattle.fs_kinds.specs.declared.fault.Fault.{Fault}
 use Rattle.fs_kinds.specs.declared.fault.Fault.TheVariants.{Memory}
 use Rattle.fs_kinds.specs.declared.placement.Entry.{Entry}
@@ -11,6 +12,7 @@ use Rattle.fs_cert_evidence.specs.CandidateFaults.{IsCandidateFault}
 use Rattle.fs_cert_evidence.specs.Evidence.{Shown}
 use Rattle.fs_sites.specs.Answers.{IsPartFault, IsShownIn, IsShownUnder}
 use Rattle.fs_sites.specs.Questions.{AllowsIn, Part, image}
+use Rattle.fs_sites.specs.inner.Bars.{IsShownBySome}
 use Rattle.fs_sites_workers.specs.Seats.{Asked, FailsAt, ForbidBelow, ForbidsAt, IsAskedIn, IsOfTest, IsPlaceOf, IsSaid, ShowsAt}
 
 -- ---- what a seat says
@@ -38,6 +40,28 @@ forbid-more seats number here before other low = elim (cases_lt other number) [
 
 pub of-tests : (parts : List Part) (p : List Entry) (seats : List Asked) → All (IsAskedIn parts p) seats → All (IsOfTest parts) seats
 of-tests parts p seats are k d low = let is = are k d low in record { part = is.part; at = is.at; test = is.test }
+
+pub of-test : (parts : List Part) (number : ℕ) (other : Part) (seat : Asked) → number < length parts → other ≡ get_or parts number other
+    → seat.number ≡ number → seat.test ≡ other.test → IsOfTest parts seat
+of-test parts number other seat low read same test =
+    let at = slice_get_read parts (length parts) number other refl low read in
+    record { part = other; at = subst (λ n. slice_get parts n ≡ Some other) (sym same) at; test = test }
+
+pub asked-in : (parts : List Part) (p : List Entry) (seat new : Asked) (number : ℕ) (other : Part) → IsOfTest parts seat → number ≡ seat.number
+    → other ≡ get_or parts number other → new.number ≡ seat.number → new.test ≡ seat.test → new.fences ≡ image other.places p → IsAskedIn parts p new
+asked-in parts p seat new number other of here read same test fences =
+    let at : slice_get parts number ≡ Some of.part = subst (λ n. slice_get parts n ≡ Some of.part) (sym here) of.at in
+    let part : other ≡ of.part = read ∙ get_or_from_slice_get parts number of.part other at in
+    record {
+      part = of.part;
+      at = subst (λ n. slice_get parts n ≡ Some of.part) (sym same) of.at;
+      test = test ∙ of.test;
+      fences = fences ∙ ap (λ (x : Part). image x.places p) part;
+    }
+
+pub shown-by-some : (parts : List Part) (p : List Entry) (found : List (ℕ × Shown)) → All (λ shown. IsShownIn parts p shown.0 shown.1) found
+    → All (λ shown. IsShownBySome parts shown.0 shown.1) found
+shown-by-some parts p found each k d low = (p, each k d low)
 
 module _ (parts : List Part) (p : List Entry) (seats : List Asked) (are : All (IsAskedIn parts p) seats) where
   asked-at : (k : ℕ) (seat : Asked) → slice_get seats k ≡ Some seat → IsAskedIn parts p seat
@@ -84,3 +108,8 @@ module _ (parts : List Part) (p : List Entry) (seats : List Asked) (are : All (I
       (subst (λ (t : Test). Allows t seat.fences) (sym asked.test)
       (subst (λ (fences : List Entry). Allows asked.part.test fences) (sym asked.fences)
       (subst (λ (x : Part). Allows x.test (image x.places p)) same allows.3)))
+
+  pub first-in : (found : Option (ℕ × Shown)) → MatchOption found (ForbidBelow seats (length parts)) (λ shown. ShowsAt seats shown.0 shown.1)
+      → MatchOption found (AllowsIn parts p → ⊥) (λ shown. IsShownIn parts p shown.0 shown.1)
+  first-in None h = forbid-in h
+  first-in (Some shown) h = shown-in shown.0 shown.1 h

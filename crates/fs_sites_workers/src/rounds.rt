@@ -3,12 +3,15 @@
 
 ghost use Rattle.std.specs.Prelude.{◌≡◌, ◌≢◌, ◌<◌, [], All, IfOk, IfErr, MatchOption, IsOkUnless, OnOk};
 ghost use Rattle.fs_kinds.specs.declared.fault.Fault.TheVariants.{Memory};
+ghost use Rattle.fs_board_offers.specs.Questions.{HasTop};
+ghost use Rattle.fs_sites_plan.specs.Plans.{ArePlain};
 ghost use Rattle.fs_sites.specs.Questions.{AllowsIn, IsPart, IsQuestion, top};
 ghost use Rattle.fs_sites.specs.Answers.{IsAnswer, IsShownIn, IsSolveFault, IsPartFault};
 ghost use Rattle.fs_sites.specs.inner.Bars.{AreBars, IsShownBySome};
 ghost use Rattle.fs_sites_workers.specs.Seats.{IsAskedIn, IsOfTest};
 
 use crate::seats::{Seat, all_allowing, first_allowing, seats_of};
+use fs_board_offers::Offers;
 use fs_cert_evidence::{Pairs, Witness};
 use fs_kinds::{Fault, List, Placement};
 use fs_sites::{Answer, Part, Question};
@@ -79,20 +82,20 @@ fn asked_seats<R: Threads + Sync>(
 fn allowing_top<R: Threads + Sync>(
     rt: &R,
     alloc: Global,
-    question: &Question,
+    parts: &[Part],
+    offers: &Offers,
     seats: Vec<Seat>,
     workers: usize,
 ) -> Result<(Vec<Seat>, Option<(usize, Witness)>), Fault>
-    requires parts { All IsPart question.now.parts }
-    requires seats { All (IsOfTest question.now.parts) seats.items }
+    requires parts { All IsPart parts.now }
+    requires seats { All (IsOfTest parts.now) seats.items }
     requires some { 0 < workers }
-    ensures seats { IfOk result (λ found. All (IsOfTest question.now.parts) found.0.items) }
-    ensures ok { IfOk result (λ found. MatchOption found.1 (AllowsIn question.now.parts (top question.now.offers) → ⊥)
-        (λ shown. IsShownIn question.now.parts (top question.now.offers) shown.0 shown.1)) }
-    ensures err { IfErr result (λ f. f ≢ Memory → IsPartFault question.now.parts f) }
+    ensures seats { IfOk result (λ found. All (IsOfTest parts.now) found.0.items) }
+    ensures ok { IfOk result (λ found. MatchOption found.1 (AllowsIn parts.now (top offers.now) → ⊥)
+        (λ shown. IsShownIn parts.now (top offers.now) shown.0 shown.1)) }
+    ensures err { IfErr result (λ f. f ≢ Memory → IsPartFault parts.now f) }
 {
-    let parts = question.parts.as_slice();
-    let sites = question.offers.slots(alloc)?;
+    let sites = offers.slots(alloc)?;
     let top = Placement::top(alloc, &sites)?;
     let mut asked = asked_seats(rt, alloc, parts, seats, &top, workers)?;
     let found = first_allowing(asked.as_mut_slice(), parts.len())?;
@@ -126,18 +129,19 @@ fn allowing<R: Threads + Sync>(
 /// Adds the bars of these executions, and the executions to those that are to be broken.
 fn add_bars(
     alloc: Global,
-    question: &Question,
+    parts: &[Part],
+    offers: &Offers,
     found: Vec<(usize, Witness)>,
     bars: &mut Vec<List<Pairs>>,
     broken: &mut Vec<(usize, Witness)>,
 ) -> Result<(), AllocError>
-    requires parts { All IsPart question.now.parts }
-    requires shown { All (λ shown. IsShownBySome question.now.parts shown.0 shown.1) found.items }
-    requires bars { AreBars question.now.parts question.now.offers bars.old.items }
-    ensures { OnOk result (AreBars question.now.parts question.now.offers bars.new.items) }
+    requires parts { All IsPart parts.now }
+    requires shown { All (λ shown. IsShownBySome parts.now shown.0 shown.1) found.items }
+    requires bars { AreBars parts.now offers.now bars.old.items }
+    ensures { OnOk result (AreBars parts.now offers.now bars.new.items) }
 {
     for (number, witness) in found {
-        bars.push(bar_by(alloc, question.parts.as_slice(), &question.offers, number, &witness)?)?;
+        bars.push(bar_by(alloc, parts, offers, number, &witness)?)?;
         broken.push((number, witness))?;
     }
     Ok(())
@@ -147,31 +151,33 @@ fn add_bars(
 fn by_rounds<R: Threads + Sync>(
     rt: &R,
     alloc: Global,
-    question: &Question,
+    parts: &[Part],
+    offers: &Offers,
     seats: Vec<Seat>,
     limits: Limits,
 ) -> Result<(Answer, Vec<(usize, Witness)>), Fault>
-    requires question { IsQuestion question.now }
-    requires seats { All (IsOfTest question.now.parts) seats.items }
+    requires parts { All IsPart parts.now }
+    requires top { HasTop offers.now }
+    requires plain { ArePlain offers.now }
+    requires seats { All (IsOfTest parts.now) seats.items }
     requires some { 0 < limits.workers }
-    requires forbidden { AllowsIn question.now.parts (top question.now.offers) → ⊥ }
-    ensures ok { IfOk result (λ found. IsAnswer question.now found.0) }
-    ensures err { IfErr result (λ f. f ≢ Memory → IsSolveFault question.now.parts f) }
+    requires forbidden { AllowsIn parts.now (top offers.now) → ⊥ }
+    ensures ok { IfOk result (λ found. IsAnswer (record { parts = parts.now; offers = offers.now }) found.0) }
+    ensures err { IfErr result (λ f. f ≢ Memory → IsSolveFault parts.now f) }
 {
-    let parts = question.parts.as_slice();
-    let offers = &question.offers;
     let mut seats = seats;
     let mut bars = Vec::new(alloc);
     let mut broken = Vec::new(alloc);
     for _ in 0..limits.rounds {
-        let Some(placement) = first_breaking(alloc, offers, &bars, limits.steps)? else {
+        let breaking = first_breaking(alloc, offers, &bars, limits.steps)?;
+        let Some(placement) = breaking else {
             unreachable!()
         };
         let (asked, found) = allowing(rt, alloc, parts, seats, &placement, limits.workers)?;
         if found.is_empty() {
             return Ok((fenced(offers, placement), broken));
         }
-        add_bars(alloc, question, found, &mut bars, &mut broken)?;
+        add_bars(alloc, parts, offers, found, &mut bars, &mut broken)?;
         seats = asked;
     }
     Err(Fault::NodeLimit)
@@ -189,12 +195,14 @@ fn solve_together<R: Threads + Sync>(
     ensures ok { IfOk result (λ found. IsAnswer question.now found.0) }
     ensures err { IfErr result (λ f. f ≢ Memory → IsSolveFault question.now.parts f) }
 {
-    let seats = seats_of(alloc, question.parts.as_slice(), limits.workers)?;
-    let (seats, found) = allowing_top(rt, alloc, question, seats, limits.workers)?;
+    let parts = question.parts.as_slice();
+    let offers = &question.offers;
+    let seats = seats_of(alloc, parts, limits.workers)?;
+    let (seats, found) = allowing_top(rt, alloc, parts, offers, seats, limits.workers)?;
     if let Some((part, witness)) = found {
         return Ok((Answer::None { part, witness }, Vec::new(alloc)));
     }
-    by_rounds(rt, alloc, question, seats, limits)
+    by_rounds(rt, alloc, parts, offers, seats, limits)
 }
 
 /// The answer to a question and the executions that fences must break, as `fs_sites_search::solve_broken` gives them, by

@@ -1,6 +1,6 @@
 //! A seat for each test, at which its judge sits: what is asked there, and what was said.
 
-ghost use Rattle.std.specs.Prelude.{◌≡◌, ◌≢◌, ◌<◌, [], All, IfOk, IfErr, IfSome, MatchOption, IsOkUnless, List};
+ghost use Rattle.std.specs.Prelude.{◌≡◌, ◌≢◌, ◌<◌, [], All, IfOk, IfErr, IfSome, MatchOption, IsOkUnless, OnOk, List, length};
 ghost use Rattle.std.specs.Arc.{arc_value};
 ghost use Rattle.fs_kinds.specs.declared.fault.Fault.TheVariants.{Memory};
 ghost use Rattle.fs_kinds.specs.declared.placement.Entry.{Entry};
@@ -170,6 +170,23 @@ impl Seat {
     }
 }
 
+/// Adds a seat of the test of this number.
+fn add_seat(
+    alloc: Global,
+    parts: &[Part],
+    number: usize,
+    seats: &mut Vec<Seat>,
+) -> Result<(), Fault>
+    requires parts { All IsPart parts.now }
+    requires low { number < length parts.now }
+    requires seats { All (IsOfTest parts.now) seats.old.items }
+    ensures ok { OnOk result (All (IsOfTest parts.now) seats.new.items) }
+    ensures err { IsOkUnless result Memory }
+{
+    seats.push(Seat::new(alloc, number, &parts[number])?)?;
+    Ok(())
+}
+
 /// A seat for each test. They are dealt to so many workers by turns, so that each gets some of tests that are alike,
 /// which mostly stand side by side.
 pub(crate) fn seats_of(alloc: Global, parts: &[Part], workers: usize) -> Result<Vec<Seat>, Fault>
@@ -182,7 +199,7 @@ pub(crate) fn seats_of(alloc: Global, parts: &[Part], workers: usize) -> Result<
     for worker in 0..workers {
         for number in 0..parts.len() {
             if number % workers == worker {
-                seats.push(Seat::new(alloc, number, &parts[number])?)?;
+                add_seat(alloc, parts, number, &mut seats)?;
             }
         }
     }

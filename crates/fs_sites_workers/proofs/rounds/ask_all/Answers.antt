@@ -10,8 +10,8 @@ for_each_mut-requires-send-T g c κs within = search (seat_send, sendable) depth
 -- each call leaves its seat as it was
 pub returns : goal.returns
 returns g c =
-    let same = c.for_each_mut.auto.seats in
-    same_lists c.for_each_mut.new.seats c.args.seats.now same
+    let same = c.for_each_mut.auto.s in
+    same_lists c.for_each_mut.new.s c.args.seats.now same
     (λ k d low.
         let there = (c.for_each_mut.ensures k d (subst (λ n. k < n) same low)).1 in
         sym there.left ∙ (grind (arith, there.call) ∙ there.argument_is))

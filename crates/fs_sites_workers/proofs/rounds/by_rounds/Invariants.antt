@@ -4,7 +4,7 @@ use Rattle.fs_sites_workers.specs.Seats.{IsOfTest}
 use Rattle.fs_sites_workers.proofs.rounds.by_rounds.Given as goal
 
 abbrev pub invariant-loop : goal.invariant-loop
-invariant-loop l = record {
-  seats : All (IsOfTest l.question.parts) l.seats.items;
-  bars : AreBars l.question.parts l.question.offers l.bars.items;
+invariant-loop g l = record {
+  seats : All (IsOfTest l.parts) l.seats.items;
+  bars : AreBars l.parts l.offers l.bars.items;
 }
