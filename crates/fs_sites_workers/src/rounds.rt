@@ -210,8 +210,8 @@ fn solve_together<R: Threads + Sync>(
 /// of its own, and each that allows its outcome gives a bar. So there are mostly fewer rounds than with one worker, who
 /// judges only up to the first such test. The answer is the same; which executions are broken may differ from those of
 /// one worker, and is the same for any larger number of them. The faults are those of `fs_sites_search::solve_broken`:
-/// in a round in which no test allows its outcome, that of the first test that has one. Where no thread can be made the
-/// tests are judged in turn.
+/// in a round in which no test allows its outcome, that of the first test that has one. Where no thread can be made
+/// the tests are judged in turn.
 pub fn solve_broken<R: Threads + Sync>(
     rt: &R,
     alloc: Global,
