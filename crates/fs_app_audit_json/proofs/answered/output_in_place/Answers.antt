@@ -1,0 +1,10 @@
+use Rattle.std.proofs.Common.{◌≡◌, false, sym, subst}
+use Rattle.serde_json.specs.Written.{has_float}
+use Rattle.fs_app_audit.specs.inner.Made.{findings_of}
+use Rattle.fs_app_audit_json.proofs.Whole.{in_place_whole}
+use Rattle.fs_app_audit_json.proofs.answered.output_in_place.Goals as goal
+
+pub json_line-requires : goal.json_line-requires
+json_line-requires c =
+    subst (λ d. has_float d ≡ false) (sym c.in_ok-value.ensures)
+    (in_place_whole c.args.name.now (findings_of c.args.found.now) c.args.in_place.now.advised)
