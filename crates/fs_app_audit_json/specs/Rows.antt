@@ -23,7 +23,8 @@ place_of hart at = record { hart = hart; at = at }
 
 abbrev pub instruction_row : PriceTable → List (List ℕ) → List Entry → (hart : ℕ) → List Instr → ℕ × Instr → List Row
 instruction_row prices lines p hart code numbered =
-    row_of (line_of lines hart numbered.0) (place_of hart numbered.0) numbered.1 (advice_in_place prices p hart code numbered.0)
+    row_of (line_of lines hart numbered.0) (place_of hart numbered.0) numbered.1
+    (advice_in_place prices p hart code numbered.0)
 
 abbrev pub code_rows : PriceTable → List (List ℕ) → List Entry → ℕ × List Instr → List Row
 code_rows prices lines p numbered =

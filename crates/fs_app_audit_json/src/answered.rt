@@ -84,10 +84,10 @@ fn answer_in_place(
     requires least { 1 ≤ limit }
     requires most { limit ≤ 1000000 }
     ensures answer { IfOk result (λ made. (given : Items ℕ) → ArePricesOf given prices
-        → IsObjectAudit file.name.now file.test.now given (string_bytes made.output.text) made.output.status made.kind
-        made.saved) }
+        → IsObjectAudit file.entry.name.now file.entry.test.now given (string_bytes made.output.text)
+        made.output.status made.kind made.saved) }
     ensures fault { IfErr result (λ f. (given : Items ℕ) → ArePricesOf given prices
-        → IsFirstAuditFault file.test.now given limit f) }
+        → IsFirstAuditFault file.entry.test.now given limit f) }
 {
     let in_place = find_in_place(alloc, file.test, &prices, &own, limit)?;
     let written = Written {
@@ -141,10 +141,10 @@ fn answer_vacuous(
     requires test { IsTest own.now }
     requires tested { (witness : Option Shown) × IsTestedAs own.now Kind.Vacuous why.now witness }
     ensures answer { IfOk result (λ made. (given : Items ℕ) → ArePricesOf given prices.now
-        → IsObjectAudit file.name.now file.test.now given (string_bytes made.output.text) made.output.status made.kind
-        made.saved) }
+        → IsObjectAudit file.entry.name.now file.entry.test.now given (string_bytes made.output.text)
+        made.output.status made.kind made.saved) }
     ensures fault { IfErr result (λ f. (given : Items ℕ) → ArePricesOf given prices.now → (limit : ℕ)
-        → IsFirstAuditFault file.test.now given limit f) }
+        → IsFirstAuditFault file.entry.test.now given limit f) }
 {
     Ok(output_vacuous(alloc, file.name, prices, own, why)?)
 }
@@ -186,10 +186,10 @@ fn answer_anew(
     requires least { 1 ≤ limit }
     requires most { limit ≤ 1000000 }
     ensures answer { IfOk result (λ made. (given : Items ℕ) → ArePricesOf given prices
-        → IsObjectAudit file.name.now file.test.now given (string_bytes made.output.text) made.output.status made.kind
-        made.saved) }
+        → IsObjectAudit file.entry.name.now file.entry.test.now given (string_bytes made.output.text)
+        made.output.status made.kind made.saved) }
     ensures fault { IfErr result (λ f. (given : Items ℕ) → ArePricesOf given prices
-        → IsFirstAnewFault file.test.now given limit f) }
+        → IsFirstAnewFault file.entry.test.now given limit f) }
 {
     let written = Written {
         test: own,
@@ -216,10 +216,10 @@ fn answer(
     requires least { 1 ≤ limit }
     requires most { limit ≤ 1000000 }
     ensures answer { IfOk result (λ made. (given : Items ℕ) → ArePricesOf given prices
-        → IsObjectAudit file.name.now file.test.now given (string_bytes made.output.text) made.output.status made.kind
-        made.saved) }
+        → IsObjectAudit file.entry.name.now file.entry.test.now given (string_bytes made.output.text)
+        made.output.status made.kind made.saved) }
     ensures fault { IfErr result (λ f. (given : Items ℕ) → ArePricesOf given prices
-        → IsFirstAuditFault file.test.now given limit f) }
+        → IsFirstAuditFault file.entry.test.now given limit f) }
 {
     match said.kind {
         Kind::Forbidden => answer_in_place(alloc, file, prices, own, limit),

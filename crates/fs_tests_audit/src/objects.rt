@@ -7,7 +7,7 @@ use std::test::Fail;
 
 const PRICES: &str = "{\"r,r\":3,\"w,w\":2,\"rw,rw\":10}";
 
-/// What stands between the accesses of either hart where a message is passed, the condition, and whether it is `--anew`.
+/// What stands between the accesses of either hart where a message is passed, the condition, and whether with `--anew`.
 const TESTS: &[(&str, &str, &str, bool)] = &[
     ("fence rw,rw", "fence r,r", "1:x5=1 /\\ 1:x7=0", false),
     ("fence rw,rw", "fence r,r", "1:x5=1 /\\ 1:x7=0", true),
