@@ -29,13 +29,6 @@ use fs_report::json_line;
 use std::alloc::{AllocError, Global};
 use std::sync::Arc;
 
-/// A file that was read: its name, and its bytes.
-#[derive(Clone, Copy)]
-struct File<'a> {
-    name: &'a str,
-    test: &'a [u8],
-}
-
 // ---- a test that is forbidden
 
 /// What is printed of it.
@@ -72,30 +65,31 @@ fn output_in_place(
 /// The answer to it.
 fn answer_in_place(
     alloc: Global,
-    file: File<'_>,
+    name: &str,
+    bytes: &[u8],
     prices: Prices,
     own: Arc<Test>,
     limit: usize,
 ) -> Result<Audited, Fault>
-    requires reads { Reads file.test.now (arc_value own) }
+    requires reads { Reads bytes.now (arc_value own) }
     requires test { IsTest (arc_value own) }
     requires tested { (why : Items ℕ) × (witness : Option Shown)
         × IsTestedAs (arc_value own) Kind.Forbidden why witness }
     requires least { 1 ≤ limit }
     requires most { limit ≤ 1000000 }
     ensures answer { IfOk result (λ made. (given : Items ℕ) → ArePricesOf given prices
-        → IsObjectAudit file.entry.name.now file.entry.test.now given (string_bytes made.output.text)
+        → IsObjectAudit name.now bytes.now given (string_bytes made.output.text)
         made.output.status made.kind made.saved) }
     ensures fault { IfErr result (λ f. (given : Items ℕ) → ArePricesOf given prices
-        → IsFirstAuditFault file.entry.test.now given limit f) }
+        → IsFirstAuditFault bytes.now given limit f) }
 {
-    let in_place = find_in_place(alloc, file.test, &prices, &own, limit)?;
+    let in_place = find_in_place(alloc, bytes, &prices, &own, limit)?;
     let written = Written {
         test: own,
         kind: Kind::Forbidden,
     };
-    let found = find_judged(alloc, Purpose::Advise, file.test, prices, written, limit)?;
-    Ok(output_in_place(alloc, file.name, &found, &in_place)?)
+    let found = find_judged(alloc, Purpose::Advise, bytes, prices, written, limit)?;
+    Ok(output_in_place(alloc, name, &found, &in_place)?)
 }
 
 // ---- a test that is vacuous
@@ -132,21 +126,22 @@ fn output_vacuous(
 /// The answer to it.
 fn answer_vacuous(
     alloc: Global,
-    file: File<'_>,
+    name: &str,
+    bytes: &[u8],
     prices: &Prices,
     own: &Test,
     why: &str,
 ) -> Result<Audited, Fault>
-    requires reads { Reads file.test.now own.now }
+    requires reads { Reads bytes.now own.now }
     requires test { IsTest own.now }
     requires tested { (witness : Option Shown) × IsTestedAs own.now Kind.Vacuous why.now witness }
     ensures answer { IfOk result (λ made. (given : Items ℕ) → ArePricesOf given prices.now
-        → IsObjectAudit file.entry.name.now file.entry.test.now given (string_bytes made.output.text)
+        → IsObjectAudit name.now bytes.now given (string_bytes made.output.text)
         made.output.status made.kind made.saved) }
     ensures fault { IfErr result (λ f. (given : Items ℕ) → ArePricesOf given prices.now → (limit : ℕ)
-        → IsFirstAuditFault file.entry.test.now given limit f) }
+        → IsFirstAuditFault bytes.now given limit f) }
 {
-    Ok(output_vacuous(alloc, file.name, prices, own, why)?)
+    Ok(output_vacuous(alloc, name, prices, own, why)?)
 }
 
 // ---- what is found anew
@@ -174,29 +169,30 @@ fn output_anew(alloc: Global, name: &str, found: &Findings) -> Result<Audited, A
 /// The answer to a test whose outcome is possible.
 fn answer_anew(
     alloc: Global,
-    file: File<'_>,
+    name: &str,
+    bytes: &[u8],
     prices: Prices,
     own: Arc<Test>,
     limit: usize,
 ) -> Result<Audited, Fault>
-    requires reads { Reads file.test.now (arc_value own) }
+    requires reads { Reads bytes.now (arc_value own) }
     requires test { IsTest (arc_value own) }
     requires tested { (why : Items ℕ) × (witness : Option Shown)
         × IsTestedAs (arc_value own) Kind.Allowed why witness }
     requires least { 1 ≤ limit }
     requires most { limit ≤ 1000000 }
     ensures answer { IfOk result (λ made. (given : Items ℕ) → ArePricesOf given prices
-        → IsObjectAudit file.entry.name.now file.entry.test.now given (string_bytes made.output.text)
+        → IsObjectAudit name.now bytes.now given (string_bytes made.output.text)
         made.output.status made.kind made.saved) }
     ensures fault { IfErr result (λ f. (given : Items ℕ) → ArePricesOf given prices
-        → IsFirstAnewFault file.entry.test.now given limit f) }
+        → IsFirstAnewFault bytes.now given limit f) }
 {
     let written = Written {
         test: own,
         kind: Kind::Allowed,
     };
-    let found = find_judged(alloc, Purpose::Advise, file.test, prices, written, limit)?;
-    Ok(output_anew(alloc, file.name, &found)?)
+    let found = find_judged(alloc, Purpose::Advise, bytes, prices, written, limit)?;
+    Ok(output_anew(alloc, name, &found)?)
 }
 
 // ---- the command
@@ -204,37 +200,38 @@ fn answer_anew(
 /// The answer to a test that was judged as it is written.
 fn answer(
     alloc: Global,
-    file: File<'_>,
+    name: &str,
+    bytes: &[u8],
     prices: Prices,
     own: Arc<Test>,
     said: Said,
     limit: usize,
 ) -> Result<Audited, Fault>
-    requires reads { Reads file.test.now (arc_value own) }
+    requires reads { Reads bytes.now (arc_value own) }
     requires test { IsTest (arc_value own) }
     requires tested { IsTestedAs (arc_value own) said.kind (string_bytes said.why) (witness_in said.witness) }
     requires least { 1 ≤ limit }
     requires most { limit ≤ 1000000 }
     ensures answer { IfOk result (λ made. (given : Items ℕ) → ArePricesOf given prices
-        → IsObjectAudit file.entry.name.now file.entry.test.now given (string_bytes made.output.text)
+        → IsObjectAudit name.now bytes.now given (string_bytes made.output.text)
         made.output.status made.kind made.saved) }
     ensures fault { IfErr result (λ f. (given : Items ℕ) → ArePricesOf given prices
-        → IsFirstAuditFault file.entry.test.now given limit f) }
+        → IsFirstAuditFault bytes.now given limit f) }
 {
     match said.kind {
-        Kind::Forbidden => answer_in_place(alloc, file, prices, own, limit),
-        Kind::Vacuous => answer_vacuous(alloc, file, &prices, &own, said.why.as_str()),
-        Kind::Allowed => answer_anew(alloc, file, prices, own, limit),
+        Kind::Forbidden => answer_in_place(alloc, name, bytes, prices, own, limit),
+        Kind::Vacuous => answer_vacuous(alloc, name, bytes, &prices, &own, said.why.as_str()),
+        Kind::Allowed => answer_anew(alloc, name, bytes, prices, own, limit),
         Kind::Faulty => unreachable!(),
     }
 }
 
 /// What `audit --json` prints of a test file of this name and a file of prices: the object of what `run_audit` of
 /// fs_app_audit prints in lines, as a line. Status, faults and cost are those of `run_audit`.
-pub fn run_audit_object<'a>(
+pub fn run_audit_object(
     alloc: Global,
-    name: &'a str,
-    test: &'a [u8],
+    name: &str,
+    test: &[u8],
     prices: &[u8],
     limit: usize,
 ) -> Result<Audited, Fault>
@@ -247,7 +244,7 @@ pub fn run_audit_object<'a>(
     let table = read_prices(alloc, prices)?;
     let own = read_shared(alloc, test)?;
     let said = judge_test(alloc, &own)?;
-    answer(alloc, File { name, test }, table, own, said, limit)
+    answer(alloc, name, test, table, own, said, limit)
 }
 
 /// What `audit --anew --json` prints: the object of what `run_anew` of fs_app_audit prints in lines, as a line. Status,

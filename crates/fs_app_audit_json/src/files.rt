@@ -39,10 +39,10 @@ impl<'a> Model for FoundObject<'a> {
 // ---- one file
 
 /// The object of a file of this name that was read, in place or anew.
-fn said_of<'a>(
+fn said_of(
     alloc: Global,
-    name: &'a str,
-    test: &'a [u8],
+    name: &str,
+    test: &[u8],
     prices: &[u8],
     is_anew: bool,
     limit: usize,

@@ -12,7 +12,7 @@ returns-in_err-output_anew-clause-fault c =
 pub returns-clause-answer : goal.returns-clause-answer
 returns-clause-answer c = λ given priced. (
     let made = c.in_ok-output_anew.ensures in
-    of_possible c.args.file.name.now c.args.file.test.now given _ _ _ _ (findings_of c.in_ok-found.found)
+    of_possible c.args.name.now c.args.bytes.now given _ _ _ _ (findings_of c.in_ok-found.found)
     (c.in_ok-found.ensures.found given priced) c.in_ok-found.ensures.kind made.text made.status
     (made.kind ∙ c.in_ok-found.ensures.kind) made.saved
     )

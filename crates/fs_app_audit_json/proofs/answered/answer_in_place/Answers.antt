@@ -24,7 +24,7 @@ find_in_place-requires-clause-forbidden c =
 
 pub returns-in_err-in_place-clause-fault : goal.returns-in_err-in_place-clause-fault
 returns-in_err-in_place-clause-fault c =
-    let bytes = c.args.file.test.now in
+    let bytes = c.args.bytes.now in
     let t = c.deref.result.now in
     let reads : Reads bytes t = subst (λ (u : Test). Reads bytes u) (sym c.deref.ensures) c.requires.reads in
     let tested : IsTested t =
@@ -64,7 +64,7 @@ returns-clause-answer c = λ given priced. (
     let offers = ap (λ (t : Test). offers_in_place c.args.prices t.codes) is
     ∙ ap (λ (table : PriceTable). offers_in_place table f.test.codes) (sym c.in_ok-found.ensures.prices) in
     let made = c.in_ok-output_in_place.ensures in
-    of_place c.args.file.name.now c.args.file.test.now given _ _ _ _ f empty advised (c.in_ok-found.ensures.found given priced)
+    of_place c.args.name.now c.args.bytes.now given _ _ _ _ f empty advised (c.in_ok-found.ensures.found given priced)
     c.in_ok-found.ensures.kind (subst (λ (t : Test). IsSame empty (emptied t)) is c.in_ok-in_place.ensures.same)
     (subst (λ (os : Offers). IsCheapest empty os advised) offers c.in_ok-in_place.ensures.cheapest)
     made.text made.status made.kind made.saved

@@ -10,6 +10,6 @@ returns-in_err-output_vacuous-clause-fault c =
 pub returns-clause-answer : goal.returns-clause-answer
 returns-clause-answer c = λ given priced. (
     let made = c.in_ok-output_vacuous.ensures in
-    of_none c.args.file.name.now c.args.file.test.now given _ _ _ _ c.args.own.now c.args.prices.now c.args.why.now
+    of_none c.args.name.now c.args.bytes.now given _ _ _ _ c.args.own.now c.args.prices.now c.args.why.now
     c.requires.tested.0 c.requires.reads priced c.requires.tested.1 made.text made.status made.kind made.saved
     )
