@@ -150,6 +150,38 @@ def long_searches():
     return {name: grown[name] for name in names} | {'votes-%d-%d-%d' % each: votes(*each) for each in numbers}
 
 
+# How a hart takes a lock, or gives up, and frees it, with the sites of the lock.
+LOCKS = {
+    'swap': ('x10=swap(lock,1) x10==0 swap_lock_#:', 'swap_unlock_#: lock=0'),
+    'lrsc': ('x10=lr(lock) x10==0 x11=sc(lock,1) x11==0 lrsc_lock_#:', 'lrsc_unlock_#: lock=0'),
+    'ticket': ('x10=add(next,1) x11=now x11==x10 ticket_lock_#:', 'x12=x11+1 ticket_unlock_#: now=x12'),
+}
+# What each hart does in the lock, and what can't come of it.
+CLIENTS = {
+    'copy': ('x13=a x13=x13+1 a=x13 b=x13', '~(a={n} /\\ b={n})'),
+    'two': ('x13=a x15=b x13=x13+1 a=x13 b=x13', '~(a={n} /\\ b={n})'),
+    'sum': ('x13=a x13=x13+1 a=x13 x15=b x15=x15+1 b=x15', '~(a={n} /\\ b={n})'),
+    'pass': ('x13=a b=x13 x15=b x15=x15+1 a=x15', '~(a={n})'),
+    'see': ('x13=a x15=b a=$ b=$ x16=x13-x15', 'some«~(#:x16=0)»'),
+    'set': ('a=$ b=$ x13=a x15=b x16=x13-x15', 'some«~(#:x16=0)»'),
+}
+
+
+def in_lock(lock, client, harts):
+    """A test of a question over sites: so many harts take the lock, one after the other, and do this in it."""
+    (take, free), (body, bad) = LOCKS[lock], CLIENTS[client]
+    lines = rows(range(harts), f'{take} {body} {free} x14=1')
+    return test_of(f'{lock}-{client}-{harts}', lines, expanded(f'(every«#:x14=1»{AND}{bad})', {'n': harts}))[0]
+
+
+def locks_of_sites():
+    """The texts of 20 tests of three locks, which are one question over sites, by their names."""
+    long = itertools.product(['swap', 'lrsc'], CLIENTS, [4])
+    others = [('ticket', client, 4) for client in ('copy', 'pass', 'see', 'set')]
+    few = [(lock, 'sum', 3) for lock in LOCKS] + [('ticket', 'two', 3)]
+    return {'-'.join(map(str, each)): in_lock(*each) for each in [*long, *others, *few]}
+
+
 PARTS = {'⏎': '\n', 'HEAD': 'RISCV T\n', 'BODY': '{ 0:x6=x; }\nP0 ;\nlw x5,0(x6) ;\n', 'TAIL': 'exists (0:x5=0)\n'}
 TINY = PARTS['HEAD'] + PARTS['BODY'] + PARTS['TAIL']
 

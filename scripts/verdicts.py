@@ -21,16 +21,31 @@ class Judge:
     def __init__(self, test, prices):
         self.test, self.prices = model.read(test, model.test_of), model.read(prices, model.prices_of)
 
+    def checker(self, data):
+        """The checker of the certificate that these bytes are."""
+        return model.Checker(self.test, self.prices, model.certificate_of(data))
+
     def verdict(self, data):
         """The same as `check` says of the bytes of a certificate."""
         try:
-            checker = model.Checker(self.test, self.prices, model.certificate_of(data))
+            checker = self.checker(data)
             checker.check()
             return Said("\n".join(["yes", *checker.lines(), ""]), "", 0)
         except model.Refused as reason:
             return Said(f"no: {reason}\n", "", 1)
         except model.NotACertificate as fault:
             return Said("", f"{fault}\n", 2)
+
+
+class SitesJudge(Judge):
+    """The same for a question over the sites of several files."""
+
+    def __init__(self, files, prices):
+        self.tests = [(file, model.read(file, model.test_of)) for file in files]
+        self.prices = model.read(prices, model.site_prices_of)
+
+    def checker(self, data):
+        return model.SitesChecker(self.tests, self.prices, model.sites_certificate_of(data))
 
 
 def fault_of(data, reader=model.test_of):

@@ -89,7 +89,7 @@ def table(answers):
     rows = ['| Test | ' + ' | '.join(f'`{prices}`' for prices in IN_TABLE) + ' |', '|---' * (1 + len(IN_TABLE)) + '|']
     for test in TESTS:
         first, second = [cell(answers[test, prices]) for prices in IN_TABLE]
-        cells = [first, 'the same' if second == first else second]
+        cells = [first, '' if second == first else second]
         rows.append(f"| `{os.path.basename(test)[:-len('.litmus')]}` | {' | '.join(cells)} |")
     return '\n'.join([*rows, ''])
 

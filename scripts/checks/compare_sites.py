@@ -4,7 +4,10 @@ scripts/litmus.py into which labels of one to three sites are put by chance.
 The list goes over all placements of the sites, the cheapest first and of equal cost in the order of kinds, writes the
 fences as FENCE instructions at all places of each site, and asks the solver in Python whether each test forbids its
 outcome. The first for which all do is the answer. Where there is none, the file that is named must be the first whose
-outcome is allowed with `rw,rw` at every site, and `order` must say yes to the execution in the test with these FENCEs."""
+outcome is allowed with `rw,rw` at every site, and `order` must say yes to the execution in the test with these FENCEs.
+
+`--cert` must write a certificate to which `check --sites` says yes with the same answer, and so must
+`scripts/check_certificate.py --sites`. Of ten others, made of it with a change or two, the two must say the same."""
 import functools
 import itertools
 import json
@@ -12,12 +15,14 @@ import random
 
 import check_certificate as model
 import solve_reference as reference
+from checks.compare_check import mangled
 from litmus import Maker
-from running import rvfence, written
-from verdicts import YES
+from running import Said, read, rvfence, written
+from verdicts import YES, SitesJudge
 
 NAMES = ["lock", "un_lock", "wmb"]
 ONES = model.prices_of(b'{"rw,rw":1}')
+MANGLED = 10        # certificates that are made of each
 
 
 class Test:
@@ -126,7 +131,25 @@ def compare_none(run, name, tests, files, found):
         run.expect(f"the execution of {name}", YES, rvfence("order", fenced, moved))
 
 
-def compare(run, number):
+def compare_certificates(run, name, files, found, certificates):
+    """Do both checkers accept the certificate of this answer, and say the same of others that are made of it?"""
+    path, judge = f"{run.folder}/certificate", SitesJudge(files[:-1], files[-1])
+    run.expect(f"{name}, with --cert", found, rvfence("solve", *files, "--sites", "--cert", path))
+    wanted = Said(f"yes\n{found.out}", "", 0)
+    run.expect(f"check of {name}", wanted, rvfence("check", *files, path, "--sites"))
+    run.expect(f"check_certificate.py of {name}", wanted, judge.verdict(read(path)))
+    certificates.append(json.loads(read(path)))
+    for number in range(MANGLED):
+        dice = random.Random(f"{name} {number}")
+        made = mangled(certificates[-1], dice.choice(certificates), dice)
+        wanted = judge.verdict(json.dumps(made).encode())
+        run.kinds[" ".join(wanted.out.split("\n")[0].split()[:2]) or "fault"] += 1
+        said = rvfence("check", *files, written(path, json.dumps(made).encode()), "--sites")
+        if not run.expect(f"certificate {number} of {name}", wanted, said):
+            print(json.dumps(made))
+
+
+def compare(run, number, certificates):
     """Compares the answers to the question of this number."""
     tests, names, prices = made(number)
     files = [written(f"{run.folder}/{k}", test.labelled().encode()) for k, test in enumerate(tests)]
@@ -138,8 +161,10 @@ def compare(run, number):
         compare_none(run, name, tests, files, found)
     elif not run.expect(name, (wanted, "", 0), (found.out, found.err, found.status)):
         print(*[test.labelled() for test in tests], prices, sep="\n")
+    compare_certificates(run, name, [*files, listed], found, certificates)
 
 
 def check(run):
+    certificates = []
     for number in run.numbers():
-        compare(run, number)
+        compare(run, number, certificates)

@@ -4,16 +4,26 @@ use Rattle.fs_app_io.specs.declared.source.Source.{Source}
 use Rattle.fs_app_io.specs.declared.status.Output.{Output}
 use Rattle.fs_app_io.specs.declared.status.Status.{Status}
 use Rattle.fs_app_io.specs.declared.status.Status.TheVariants.{Success, Denied, Failure}
-use Rattle.fs_app_place_order.specs.Place.{IsFencedText}
-use Rattle.fs_app_place_order.specs.Order.{IsOrderAnswer}
+use Rattle.fs_app_place_order.specs.Place.{ArePricesOf, IsFencedText, IsFirstPlaceFault}
+use Rattle.fs_app_place_order.specs.Order.{IsOrderAnswer, IsFirstOrderFault}
+use Rattle.fs_app_sites_place.specs.Place.{IsSitesText, IsFirstSitesPlaceFault}
+use Rattle.fs_app_sites_place.specs.Order.{IsSitesOrderAnswer, IsFirstSitesOrderFault}
 use Rattle.fs_report.specs.Objects.{AreOneAnswer}
 use Rattle.fs_app_solve.specs.Solve.{IsSolved}
+use Rattle.fs_app_solve_text.specs.Inserted.{IsInserted}
 use Rattle.fs_app_sites.specs.Solved.{IsSolved as IsSitesSolved}
 use Rattle.fs_app_sites.specs.declared.content.File.{File}
+use Rattle.fs_app_sites_check.specs.Checked.{IsSitesChecked}
 use Rattle.fs_app_audit.specs.Audit.{IsAnew, IsAudited, IsWritten, IsFirstAnewFault, IsFirstAuditFault, IsFirstWrittenFault}
 use Rattle.fs_app_audit.specs.Blocks.{AreBlocks, are_named, blocks_status, blocks_text}
 use Rattle.fs_app_audit.specs.declared.blocks.Block.{Block}
+use Rattle.fs_app_audit_json.specs.Files.{AreObjectBlocks, objects_text}
 use Rattle.fs_kinds.specs.declared.fault.Fault.{Fault}
+use Rattle.fs_kinds.specs.declared.placement.Entry.{Entry}
+use Rattle.fs_kinds.specs.PriceTable.{PriceTable}
+use Rattle.fs_litmus.specs.Reads.{Reads}
+use Rattle.fs_model.specs.Allows.{IsCheapest}
+use Rattle.fs_model.specs.declared.test.Test.{Test as Program}
 use Rattle.fs_app_check.specs.Check.{IsChecked, AreOneVerdict}
 use Rattle.fs_app_test.specs.declared.said.Kind.{Kind}
 use Rattle.fs_app_test.specs.declared.said.Line.{Line}
@@ -29,6 +39,7 @@ use Rattle.fs_app_command_line.specs.declared.command.Solve.{Solve}
 use Rattle.fs_app_command_line.specs.declared.command.Sites.{Sites}
 use Rattle.fs_app_command_line.specs.declared.command.Audit.{Audit}
 use Rattle.fs_app_command_line.specs.declared.command.Check.{Check}
+use Rattle.fs_app_command_line.specs.declared.command.CheckSites.{CheckSites}
 use Rattle.fs_app_files.specs.declared.papers.Papers.{Papers}
 use Rattle.fs_app_files.specs.Judging.{AreJudged}
 use Rattle.fs_app_why_kinds.specs.declared.told.Telling.{Telling}
@@ -42,11 +53,29 @@ offered place papers = option_map (λ name. papers.prices.bytes.items) place.pri
 abbrev pub in_form : (is_json : Bool) (lines object : List ℕ) → List ℕ
 in_form is_json lines object = if is_json then object else lines
 
+-- the test with fences in slots, or with `--sites` at all copies of sites
+abbrev pub IsPlacedText : (has_sites : Bool) (test : List ℕ) (prices : Option (List ℕ)) (words : List (List ℕ)) (text : List ℕ) → Type 0
+IsPlacedText true test prices words text = IsSitesText test prices words text
+IsPlacedText false test prices words text = IsFencedText test prices words text
+
+abbrev pub IsPlaceFault : (has_sites : Bool) (test : List ℕ) (prices : Option (List ℕ)) (words : List (List ℕ)) → Fault → Type 0
+IsPlaceFault true test prices words fault = IsFirstSitesPlaceFault test prices words fault
+IsPlaceFault false test prices words fault = IsFirstPlaceFault test prices words fault
+
+-- and the verdict on a witness in it
+abbrev pub IsOrderText : (has_sites : Bool) (test witness : List ℕ) (words : List (List ℕ)) (text : List ℕ) (status : Status) → Type 0
+IsOrderText true test witness words text status = IsSitesOrderAnswer test witness words text status
+IsOrderText false test witness words text status = IsOrderAnswer test witness words text status
+
+abbrev pub IsOrderFault : (has_sites : Bool) (test witness : List ℕ) (words : List (List ℕ)) → Fault → Type 0
+IsOrderFault true test witness words fault = IsFirstSitesOrderFault test witness words fault
+IsOrderFault false test witness words fault = IsFirstOrderFault test witness words fault
+
 -- what `place` prints of the test of this name, with the prices of this name
 pub record AnswersPlace (place : Place) (papers : Papers) (output : Output) : Type 0 where
   pub test_name : papers.test.name.now ≡ place.test.now
   pub prices_name : IfSome place.prices (λ name. papers.prices.name.now ≡ name.now)
-  pub text : IsFencedText papers.test.bytes.items (offered place papers) (map string_bytes place.fences.items) (string_bytes output.text)
+  pub text : IsPlacedText place.sites papers.test.bytes.items (offered place papers) (map string_bytes place.fences.items) (string_bytes output.text)
   pub ends : output.status ≡ Success
 
 pub record AnswersOrder (order : Order) (papers : Papers) (output : Output) : Type 0 where
@@ -54,7 +83,7 @@ pub record AnswersOrder (order : Order) (papers : Papers) (output : Output) : Ty
   pub witness_name : papers.evidence.name.now ≡ order.witness.now
   pub lines : List ℕ
   pub below : List ℕ
-  pub answer : IsOrderAnswer papers.test.bytes.items papers.evidence.bytes.items (map string_bytes order.fences.items) lines output.status
+  pub answer : IsOrderText order.sites papers.test.bytes.items papers.evidence.bytes.items (map string_bytes order.fences.items) lines output.status
   pub told : IsTold order.why (IsOrderWhy papers.test.bytes.items papers.evidence.bytes.items (map string_bytes order.fences.items)) below
   pub text : string_bytes output.text ≡ lines ++ below
 
@@ -74,10 +103,27 @@ pub record IsSolvedAndTold (is_json : Bool) (asked : Option Telling) (test price
   pub told : IsToldBy asked (λ telling. IsSolveWhy telling test prices lines output.status) below
   pub text : string_bytes output.text ≡ shown ++ below
 
+-- The test that the bytes read as has these fences at these prices: the first of the cheapest that rule its outcome out.
+-- The text is the file with them, or the fenced test in print.
+pub record IsFencedFile (test prices text : List ℕ) : Type 0 where
+  pub the_test : Program
+  pub table : PriceTable
+  pub placement : List Entry
+  pub reads : Reads test the_test
+  pub priced : ArePricesOf prices table
+  pub cheapest : IsCheapest the_test table placement
+  pub inserted : IsInserted test the_test placement text
+
+-- the answer, and what is told below it; or with `--write`, where the answer is fences, the file with these
+pub data IsSolveText (solve : Solve) (test prices : List ℕ) (output : Output) : Type 0 where
+  said : IsSolvedAndTold solve.json (telling_of solve.why) test prices output → IsSolveText solve test prices output
+  written : solve.write ≡ true → IsFencedFile test prices (string_bytes output.text) → output.status ≡ Success
+      → IsSolveText solve test prices output
+
 pub record AnswersSolve (solve : Solve) (papers : Papers) (output : Output) : Type 0 where
   pub test_name : papers.test.name.now ≡ solve.test.now
   pub prices_name : papers.prices.name.now ≡ solve.prices.now
-  pub answer : IsSolvedAndTold solve.json (telling_of solve.why) papers.test.bytes.items papers.prices.bytes.items output
+  pub answer : IsSolveText solve papers.test.bytes.items papers.prices.bytes.items output
 
 -- the answer to some files and the prices that were read; or no answer, since a file has a fault
 pub data AnswersSites (sites : Sites) (papers : Papers) (output : Output) : Type 0 where
@@ -115,10 +161,21 @@ pub record AnswersBlocks (audit : Audit) (files : List Source) (papers : Papers)
   pub text : string_bytes output.text ≡ blocks_text audit.anew blocks
   pub ends : output.status ≡ blocks_status blocks
 
+-- the same with `--json`: of each file its object
+pub record AnswersObjects (audit : Audit) (files : List Source) (papers : Papers) (output : Output) : Type 0 where
+  pub prices_name : papers.prices.name.now ≡ audit.prices.now
+  pub blocks : List Block
+  pub named : are_named files blocks ≡ true
+  pub are : AreObjectBlocks audit.anew papers.prices.bytes.items blocks
+  pub text : string_bytes output.text ≡ objects_text blocks
+  pub ends : output.status ≡ blocks_status blocks
+
 -- Of the only file that the words name, or of several; nothing where a file is mended, or where a test is to be written
 -- and there are several. Which files folders and lists stand for no definition says.
 pub data AnswersAudit (audit : Audit) (papers : Papers) (output : Output) : Type 0 where
   alone : (name : List ℕ) → map string_bytes audit.files.items ≡ name ∷ [] → AnswersOneAudit audit name papers output
+      → AnswersAudit audit papers output
+  objects : {files : List Source} → audit.json ≡ true → AnswersObjects audit files papers output
       → AnswersAudit audit papers output
   several : {files : List Source} → audit.write ≡ false → AnswersBlocks audit files papers output
       → AnswersAudit audit papers output
@@ -138,6 +195,16 @@ pub record AnswersCheck (check : Check) (papers : Papers) (output : Output) : Ty
   pub told : IsToldBy (if is_yes output.status then telling_of check.why else None)
       (λ telling. IsCertifiedWhy telling papers.test.bytes.items papers.evidence.bytes.items) below
   pub text : string_bytes output.text ≡ in_form check.json lines object ++ below
+
+-- the verdict on the certificate that was read, for some files and the prices that were read; or none, since a file has
+-- a fault
+pub data AnswersCheckSites (check : CheckSites) (papers : Papers) (output : Output) : Type 0 where
+  checked : (files : List File) (lines object : List ℕ) → papers.prices.name.now ≡ check.prices.now
+      → papers.evidence.name.now ≡ check.certificate.now
+      → IsSitesChecked files papers.prices.bytes.items papers.evidence.bytes.items lines object output.status
+      → string_bytes output.text ≡ in_form check.json lines object
+      → AnswersCheckSites check papers output
+  refused : output.status ≡ Failure → AnswersCheckSites check papers output
 
 -- The text, but for what is told below it, and the status are those of the same lines. Each says what is true of some
 -- bytes, or of a file that wasn't read; what is told is told of these bytes.
@@ -169,4 +236,5 @@ Answers (task.Solve solve) papers output = AnswersSolve solve papers output
 Answers (task.Sites sites) papers output = AnswersSites sites papers output
 Answers (task.Audit audit) papers output = AnswersAudit audit papers output
 Answers (task.Check check) papers output = AnswersCheck check papers output
+Answers (task.CheckSites check) papers output = AnswersCheckSites check papers output
 Answers (task.Completions shell) papers output = output.status ≡ Success

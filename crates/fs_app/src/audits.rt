@@ -1,11 +1,13 @@
 //! What `audit` answers, of one file or of several, one after the other or side by side.
 
 ghost use Rattle.std.specs.Prelude.{◌≡◌, ◌≤◌, ◌∷◌, [], IfOk, IfErr, IfSome, map, string_bytes};
-ghost use Rattle.fs_app.specs.Answers.{AnswersAudit, AnswersBlocks, AnswersOneAudit, IsAuditFault, IsAuditText};
+ghost use Rattle.fs_app.specs.Answers.{AnswersAudit, AnswersBlocks, AnswersObjects, AnswersOneAudit};
+ghost use Rattle.fs_app.specs.Answers.{IsAuditFault, IsAuditText};
 
 use crate::failure::Failure;
 use crate::program::{Voice, refused, report};
 use fs_app_audit::{Found, audit_file, blocks_of, blocks_output, run_anew, run_audit, run_written};
+use fs_app_audit_json::{FoundObject, object_of_file, objects_of, objects_output};
 use fs_app_audit_text::keeps;
 use fs_app_command_line::{Audit, MOST_NODES};
 use fs_app_files::{Papers, message_of_file};
@@ -31,15 +33,18 @@ struct Taken<'a> {
 struct Asked<'a> {
     prices: &'a [u8],
     is_anew: bool,
+    is_json: bool,
     limit: usize,
     /// Whether messages are wanted.
     explains: bool,
 }
 
-/// What was found of files, in their order, and messages of those that aren't tests, or weren't read.
+/// What was found of files, in their order, in lines or as objects, and messages of those that aren't tests, or weren't
+/// read.
 #[derive(Drop)]
 struct Batch<'a> {
     files: Vec<Found<'a>>,
+    objects: Vec<FoundObject<'a>>,
     messages: Vec<String>,
 }
 
@@ -58,7 +63,7 @@ pub(crate) fn answer_audit<'a, R: Files + Input + Eprint + AllocGlobal + Threads
     answer_said(rt, audit, voice, papers)
 }
 
-/// What `audit` says of its files. Where one word names one file its fault ends the run.
+/// What `audit` says of its files. Where one word names one file its fault ends the run, but not with objects.
 fn answer_said<'a, R: Files + Input + Eprint + AllocGlobal + Threads + Sync>(
     rt: &R,
     audit: &'a Audit<'a>,
@@ -68,6 +73,9 @@ fn answer_said<'a, R: Files + Input + Eprint + AllocGlobal + Threads + Sync>(
     ensures { IfOk result (AnswersAudit audit.now papers.new) }
 {
     let files = sources(rt, &audit.files)?;
+    if audit.json {
+        return answer_objects(rt, audit, &files, voice, papers);
+    }
     if let Some(word) = only(audit.files.as_slice()) {
         if is_alone(word, &files) {
             return answer_alone(rt, audit, word, papers);
@@ -228,16 +236,12 @@ fn answer_files<'a, R: Files + Input + Eprint + AllocGlobal + Threads + Sync>(
 {
     papers.read_prices(rt, audit.prices)?;
     let _table = read_prices(rt.alloc(), &papers.prices.bytes)?;
-    let asked = Asked {
-        prices: &papers.prices.bytes,
-        is_anew: audit.anew,
-        limit: limit_of(audit),
-        explains: voice.explains,
-    };
+    let asked = asked_of(audit, voice, &papers.prices.bytes);
     let batch = audit_all(rt, files, audit.jobs, asked)?;
     let Batch {
         files: found,
         messages,
+        ..
     } = batch;
     let blocks = blocks_of(rt.alloc(), files, found, &papers.prices.bytes, audit.anew)?;
     let output = blocks_output(rt.alloc(), &blocks, audit.anew)?;
@@ -245,6 +249,44 @@ fn answer_files<'a, R: Files + Input + Eprint + AllocGlobal + Threads + Sync>(
         tell(rt, message);
     }
     Ok(output)
+}
+
+/// The objects of files. Messages come before them.
+fn answer_objects<'a, R: Files + Input + Eprint + AllocGlobal + Threads + Sync>(
+    rt: &R,
+    audit: &'a Audit<'a>,
+    files: &[Source],
+    voice: Voice,
+    papers: &mut Papers<'a>,
+) -> Result<Output, Fault>
+    ensures { IfOk result (AnswersObjects audit.now files.now papers.new) }
+{
+    papers.read_prices(rt, audit.prices)?;
+    let _table = read_prices(rt.alloc(), &papers.prices.bytes)?;
+    let asked = asked_of(audit, voice, &papers.prices.bytes);
+    let batch = audit_all(rt, files, audit.jobs, asked)?;
+    let Batch {
+        objects,
+        messages,
+        ..
+    } = batch;
+    let blocks = objects_of(rt.alloc(), files, objects, &papers.prices.bytes, audit.anew)?;
+    let output = objects_output(rt.alloc(), &blocks)?;
+    for message in &messages {
+        tell(rt, message);
+    }
+    Ok(output)
+}
+
+/// What is asked of each file, at these prices.
+fn asked_of<'p>(audit: &Audit<'_>, voice: Voice, prices: &'p [u8]) -> Asked<'p> {
+    Asked {
+        prices,
+        is_anew: audit.anew,
+        is_json: audit.json,
+        limit: limit_of(audit),
+        explains: voice.explains,
+    }
 }
 
 /// What is found of all files. With more than one job so many threads judge files side by side, which changes nothing
@@ -328,6 +370,7 @@ impl<'a> Batch<'a> {
     fn new(alloc: Global) -> Self {
         Batch {
             files: Vec::new(alloc),
+            objects: Vec::new(alloc),
             messages: Vec::new(alloc),
         }
     }
@@ -339,8 +382,13 @@ impl<'a> Batch<'a> {
         if asked.explains {
             self.add_message(message_of_file(alloc, name, &file));
         }
-        let file = file.map_err(|why| why.fault());
         let limit = asked.limit.clamp(1, MOST_NODES as usize);
+        if asked.is_json {
+            let found = object_of_file(alloc, name, file, asked.prices, asked.is_anew, limit)?;
+            self.objects.push(found)?;
+            return Ok(());
+        }
+        let file = file.map_err(|why| why.fault());
         let found = audit_file(alloc, name, file, asked.prices, asked.is_anew, limit)?;
         self.files.push(found)?;
         Ok(())
@@ -356,6 +404,9 @@ impl<'a> Batch<'a> {
     fn add(&mut self, later: Batch<'a>) -> Result<(), AllocError> {
         for file in later.files {
             self.files.push(file)?;
+        }
+        for object in later.objects {
+            self.objects.push(object)?;
         }
         for message in later.messages {
             self.add_message(Some(message));

@@ -55,19 +55,19 @@ pub(crate) fn is_yes(status: Status) -> bool
 }
 
 /// What is told below the verdict on the witness that was read.
-pub(crate) fn order_why(alloc: Global, why: bool, papers: &Papers<'_>) -> Result<String, Fault>
+pub(crate) fn order_why(
+    alloc: Global,
+    why: bool,
+    papers: &Papers<'_>,
+    words: &[String],
+) -> Result<String, Fault>
     ensures { IfOk result (λ text. IsTold why (IsOrderWhy papers.now.test.bytes.items
-        papers.now.evidence.bytes.items (map string_bytes papers.now.fences.now)) (string_bytes text)) }
+        papers.now.evidence.bytes.items (map string_bytes words.now)) (string_bytes text)) }
 {
     if !why {
         return Ok(String::new(alloc));
     }
-    why_order(
-        alloc,
-        &papers.test.bytes,
-        &papers.evidence.bytes,
-        papers.fences,
-    )
+    why_order(alloc, &papers.test.bytes, &papers.evidence.bytes, words)
 }
 
 /// What is told below an answer with this certificate.
@@ -210,7 +210,7 @@ fn push_told(
 }
 
 /// The bytes of the test of this number; none where there is no such test.
-fn test_at(tests: &[Vec<u8>], number: usize) -> &[u8]
+pub(crate) fn test_at(tests: &[Vec<u8>], number: usize) -> &[u8]
     ensures { result.now ≡ slice_index_or (map (λ test. test.items) tests.now) number [] }
 {
     if number < tests.len() {

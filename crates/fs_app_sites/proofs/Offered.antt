@@ -24,7 +24,7 @@ all-after : (i n j : ℕ) → i < j → list_all (is_before (key i)) (map key (r
 all-after i zero j low = refl
 all-after i (suc n) j low = and_from _ _ (key-before i j low) (all-after i n (j + 1) (omega (arith, low)))
 
-rising-keys : (n i : ℕ) → is_rising (map key (range_with_len i n)) ≡ true
+pub rising-keys : (n i : ℕ) → is_rising (map key (range_with_len i n)) ≡ true
 rising-keys zero i = refl
 rising-keys (suc n) i = and_from _ _ (all-after i n (i + 1) (omega arith)) (rising-keys n (i + 1))
 

@@ -27,7 +27,7 @@ pub struct File {
 
 /// A copy of a site: before the instruction of this slot stands the fence of the site of this name.
 #[derive(Drop)]
-pub(crate) struct SiteCopy {
+pub struct SiteCopy {
     pub slot: Slot,
     pub name: String,
 }
@@ -85,8 +85,9 @@ fn shared(alloc: Global, test: Test) -> Result<Arc<Test>, AllocError>
     Ok(Arc::new(alloc, test)?)
 }
 
-/// The copies of sites in a file, of which `read_test` has read the test.
-fn read_copies(alloc: Global, bytes: &[u8]) -> Result<List<SiteCopy>, Fault>
+/// The copies of sites in a file, of which `read_test` has read the test, in the order of their slots. F6 in the line of
+/// a second site label at a place; or F19. It costs what `check_file` costs.
+pub fn read_copies(alloc: Global, bytes: &[u8]) -> Result<List<SiteCopy>, Fault>
     ensures ok { IfOk result (λ copies. HaveCopies bytes.now (map copy_value copies)) }
     ensures rising { IfOk result (λ copies. is_rising (slots_of (map copy_value copies)) ≡ true) }
     ensures err { IfErr result (λ f. f ≢ Memory → IsLabelsFault bytes.now f) }

@@ -29,8 +29,13 @@ fn add_name(alloc: Global, names: &mut Vec<String>, name: &str) -> Result<(), Al
     Ok(())
 }
 
-/// Appends the names of these copies that aren't there yet.
-fn add_copies(alloc: Global, names: &mut Vec<String>, copies: &[SiteCopy]) -> Result<(), AllocError>
+/// Appends the names of these copies that aren't there yet. Fails only for want of memory. Each copy's name is looked for
+/// in all names.
+pub fn add_copies(
+    alloc: Global,
+    names: &mut Vec<String>,
+    copies: &[SiteCopy],
+) -> Result<(), AllocError>
     ensures { OnOk result (map string_bytes names.new.items
         ≡ with_copies (map string_bytes names.old.items) (map copy_value copies.now)) }
 {

@@ -21,8 +21,8 @@ pub fn check_prices(alloc: Global, bytes: &[u8]) -> Result<(), Fault>
     Ok(())
 }
 
-/// The prices, which give no weights.
-pub(crate) fn read_site_prices(alloc: Global, bytes: &[u8]) -> Result<Prices, Fault>
+/// The prices for sites, which give no weights. The faults are those of `check_prices`.
+pub fn read_site_prices(alloc: Global, bytes: &[u8]) -> Result<Prices, Fault>
     ensures ok { IfOk result (AreSitePrices bytes.now) }
     ensures table { IfOk result IsPriceTable }
     ensures err { IfErr result (λ f. f ≢ Memory → IsSitePricesFault bytes.now f) }

@@ -18,10 +18,10 @@ use std::alloc::{AllocError, Global};
 use std::sync::Arc;
 
 /// So many sites have a key of their own.
-pub(crate) const MOST_SITES: usize = 65_536;
+pub const MOST_SITES: usize = 65_536;
 
 /// The key of a site by its number, which is a name only: keys rise as numbers do.
-fn key(number: usize) -> Slot
+pub fn key(number: usize) -> Slot
     requires { number < most_sites }
     ensures { result ≡ key number }
 {
@@ -85,8 +85,13 @@ fn place_of(names: &[String], copy: &SiteCopy) -> Place
     }
 }
 
-/// The places of copies.
-fn places_of(alloc: Global, names: &[String], copies: &[SiteCopy]) -> Result<Vec<Place>, AllocError>
+/// The places of copies, whose sites have some of these names: those of the sites of one question. Fails only for want
+/// of memory. Each copy's name is looked for in all names.
+pub fn places_of(
+    alloc: Global,
+    names: &[String],
+    copies: &[SiteCopy],
+) -> Result<Vec<Place>, AllocError>
     ensures { IfOk result (λ places. places.items
         ≡ places_of (map string_bytes names.now) (map copy_value copies.now)) }
 {

@@ -9,4 +9,4 @@ mod reread;
 mod rows;
 
 pub use added::adds;
-pub use reread::{inserted, inserted_reads_fenced};
+pub use reread::{inserted, inserted_reads_fenced, print};

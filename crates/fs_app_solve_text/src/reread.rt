@@ -27,8 +27,8 @@ struct Made {
     test: Test,
 }
 
-/// The printed form of the test.
-fn print(alloc: Global, test: &Test) -> Result<String, Fault>
+/// The printed form of the test, as `place` prints it without FENCE words. The error is F19.
+pub fn print(alloc: Global, test: &Test) -> Result<String, Fault>
     requires { IsBounded test.now }
     ensures ok { IfOk result (λ text. string_bytes text ≡ printed test.now) }
     ensures err { IsOkUnless result Fault.Memory }

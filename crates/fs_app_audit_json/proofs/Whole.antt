@@ -1,0 +1,37 @@
+-- No object of a file has a float.
+use Rattle.std.proofs.Common.{◌≡◌, ℕ, Option, None, Some, false, List, [], ◌∷◌, map, refl, if◌then◌else◌}
+use Rattle.serde_json.specs.Written.{has_float, items_have_float}
+use Rattle.fs_kinds.specs.declared.kind.Kind.{Kind}
+use Rattle.fs_kinds.specs.declared.placement.Entry.{Entry}
+use Rattle.fs_cert_evidence.specs.Texts.{items_of}
+use Rattle.fs_app_test.specs.Report.{number_or_null}
+use Rattle.fs_app_audit.specs.Audit.{Findings}
+use Rattle.fs_app_audit_json.specs.Objects.{advised_kind, anew_value, cost_of, in_place_value, kind_or_null, row_value, vacuous_value}
+use Rattle.fs_app_audit_json.specs.Rows.{rows_below, rows_in_place}
+use Rattle.fs_app_audit_json.specs.declared.rows.Row.{Row}
+
+kind_whole : (kind : Option Kind) → has_float (kind_or_null kind) ≡ false
+kind_whole None = refl
+kind_whole (Some kind) = refl
+
+number_whole : (n : Option ℕ) → has_float (number_or_null n) ≡ false
+number_whole None = refl
+number_whole (Some n) = refl
+
+row_whole : (row : Row) → has_float (row_value row) ≡ false
+row_whole row = rw (kind_whole (advised_kind row.instr row.advice)) refl
+
+rows_whole : (rows : List Row) → items_have_float (items_of (map row_value rows)) ≡ false
+rows_whole [] = refl
+rows_whole (row ∷ rows) = rw (row_whole row, rows_whole rows) refl
+
+pub in_place_whole : (name : List ℕ) (f : Findings) (p : List Entry) → has_float (in_place_value name f p) ≡ false
+in_place_whole name f p =
+    rw (number_whole (cost_of f.prices f.best), rows_whole (rows_in_place f.prices f.lines f.test.codes p)) refl
+
+pub anew_whole : (name : List ℕ) (f : Findings) → has_float (anew_value name f) ≡ false
+anew_whole name f =
+    rw (number_whole (cost_of f.prices f.best), number_whole (cost_of f.prices (if f.all then Some f.written else None)), rows_whole (rows_below f.lines f.test.codes f.best)) refl
+
+pub vacuous_whole : (name why : List ℕ) (written : ℕ) → has_float (vacuous_value name why written) ≡ false
+vacuous_whole name why written = refl

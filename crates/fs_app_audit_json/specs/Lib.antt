@@ -1,0 +1,4 @@
+pub mod Rows
+pub mod Objects
+pub mod Answered
+pub mod Files

@@ -1,0 +1,4 @@
+pub mod Sited
+pub mod Place
+pub mod Order
+pub mod inner

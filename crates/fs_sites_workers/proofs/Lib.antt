@@ -1,0 +1,3 @@
+pub mod Asked
+pub mod Crosses
+pub mod Outcomes
