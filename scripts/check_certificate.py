@@ -2,6 +2,7 @@
 """Checks a certificate of an answer, in plain Python.
 
     scripts/check_certificate.py TEST PRICES CERTIFICATE
+    scripts/check_certificate.py --sites FILE.. PRICES CERTIFICATE
 
 It is written from docs/CERTIFICATE.md, docs/REFUTATIONS.md, docs/FORMAT.md and docs/MODEL.md alone, and shares no code
 with the program. The sections below name the part of these documents that they follow.
@@ -197,6 +198,7 @@ class Test:
         self.words = {}             # the word at each address at the beginning
         self.outcome = ('constant', True)
         self.wanted = (self.outcome, True)      # the condition, and the truth value that it has where the outcome is
+        self.columns = []           # of each hart its cells: tokens and their lines
 
     def memory_instructions(self):
         """Hart and instruction of each memory instruction."""
@@ -456,7 +458,7 @@ class TestReader:
 
     def read(self):
         test, entries = self.test, self.entries()
-        columns = self.rows(self.header())
+        columns = test.columns = self.rows(self.header())
         test.registers = [[0] * 32 for _ in columns]
         if self.accept('locations'):
             self.expect('[')
@@ -1043,10 +1045,10 @@ FILES = [{'version': version, 'answer': lambda answer: answer == 'none' or has_f
           'tree': [is_item if version > 1 else is_item_of_1], 'witnesses': [WITNESS]} for version in (1, 2, 4)]
 
 
-def certificate_of(data):
+def certificate_of(data, forms=FILES):
     """The certificate that these bytes are."""
     value = json_of(data)
-    if any(has_form(value, form) for form in FILES):
+    if any(has_form(value, form) for form in forms):
         return value
     raise NotACertificate('fault F18 BadCertificate')
 
@@ -1416,6 +1418,146 @@ class Checker:
         return ['fenced %d' % self.cost] + fence_lines(self.slots, self.answer)
 
 
+# --- Certificates over sites (FORMAT 21, CERTIFICATE 7) -----------------------------------------------------------
+
+SITES_FILE = {'version': 5, 'answer': lambda answer: answer == 'none' or has_form(answer, FENCED),
+              'cycles': [[is_inference]], 'tree': lambda tree: tree == [], 'witnesses': [{**WITNESS, 'test': is_whole}]}
+
+
+def sites_certificate_of(data):
+    return certificate_of(data, [SITES_FILE])
+
+
+def site_name(label):
+    """The label without digits and `_` at its end, or all of it where nothing else is there."""
+    return label.rstrip('0123456789_') or label
+
+
+def places_of(test):
+    """The copies of sites in this test: the slot of each, hart and instruction, and the name of its site."""
+    found = []
+    for hart, cells in enumerate(test.columns):
+        ends, position = {words[-1] for words, _ in cells if words}, 0
+        for words, lines in cells:
+            at = 0
+            while words[at + 1:at + 2] == [':'] and (is_name(words[at]) or is_number(words[at])):
+                if is_name(words[at]) and words[at] not in ends:
+                    if found and found[-1][0] == (hart, position):
+                        raise Fault('fault F6 BadLabel line %d' % lines[at])
+                    found.append(((hart, position), site_name(words[at])))
+                at += 2
+            position += at < len(words)
+    return found
+
+
+def site_prices_of(data):
+    """The price list that these bytes are, which gives no weights."""
+    prices = prices_of(data)
+    if 'weights' in json_of(data):
+        raise Fault('fault F10 BadPrices')
+    return prices
+
+
+class SitesChecker:
+    """Tests, each with its path, a price list and a certificate file. The checks raise Refused with a reason. A
+    placement is a tuple with a kind or None for each site."""
+
+    def __init__(self, tests, prices, certificate):
+        self.paths, self.tests = [path for path, _ in tests], [test for _, test in tests]
+        self.price, self.certificate = prices.price, certificate
+        self.options = [None] + prices.offered
+        self.places = [places_of(test) for test in self.tests]
+        self.names = list(dict.fromkeys(name for places in self.places for _, name in places))
+        self.answer = None
+
+    def check(self):
+        if self.certificate['answer'] == 'none':
+            self.check_none()
+        else:
+            bars = [self.bar(number) for number in range(len(self.certificate['witnesses']))]
+            self.answer = self.cheapest(bars)
+            ask(self.answer is not None and self.certificate['answer'] == self.claim(), 'answer')
+            self.check_cycles()
+
+    def check_none(self):
+        """One witness, which shows the outcome of its test with `rw,rw` at every site."""
+        ask(not self.certificate['cycles'] and len(self.certificate['witnesses']) == 1, 'answer')
+        self.shown(0, ('rw,rw',) * len(self.names))
+
+    def check_cycles(self):
+        """For each test a refutation of it under the answer."""
+        lists = self.certificate['cycles']
+        ask(len(lists) == len(self.tests), 'cycles %d' % min(len(lists), len(self.tests)))
+        for number, (test, inferences) in enumerate(zip(self.tests, lists)):
+            try:
+                Refutation(test, *self.image(number, self.answer)).check(inferences)
+            except Refused:
+                raise Refused('cycles %d' % number)
+
+    def image(self, number, placement):
+        """The slots of a test's places, and the kind at each."""
+        kinds = dict(zip(self.names, placement))
+        return [slot for slot, _ in self.places[number]], [kinds[name] for _, name in self.places[number]]
+
+    def shown(self, number, placement):
+        """The execution of this witness, which must show the outcome of its test under this placement."""
+        witness = self.certificate['witnesses'][number]
+        ask(witness['test'] < len(self.tests), 'witness %d' % number)
+        execution = execution_of(self.tests[witness['test']], witness)
+        ask(execution and execution.obeys_axioms(*self.image(witness['test'], placement)) and execution.has_outcome(),
+            'witness %d' % number)
+        return execution
+
+    def bar(self, number):
+        """For each site the pairs that a fence may have at all its places in the witness's test and break nothing."""
+        execution = self.shown(number, (None,) * len(self.names))
+        bar = {name: set(ALL_PAIRS) for name in self.names}
+        for slot, name in self.places[self.certificate['witnesses'][number]['test']]:
+            bar[name] &= execution.width(slot)
+        return [bar[name] for name in self.names]
+
+    def cheapest(self, bars):
+        """The first of the cheapest placements that break each bar, or None. They come in the order in which they are
+        preferred, so the first of equal cost is the best."""
+        best, least = None, math.inf
+
+        def go(kinds, cost, open_bars):
+            nonlocal best, least
+            if cost + self.still_due(len(kinds), open_bars) >= least:
+                return
+            if len(kinds) == len(self.names):
+                best, least = kinds, cost
+                return
+            for kind in self.options:
+                left = [bar for bar in open_bars if kind is None or PAIRS[kind] <= bar[len(kinds)]]
+                go(kinds + (kind,), cost + (self.price[kind] if kind else 0), left)
+
+        go((), 0, bars)
+        return best
+
+    def still_due(self, first, open_bars):
+        """What it costs at least to break each of these bars at the sites from this one on."""
+        return max((min((price for site in range(first, len(self.names)) for kind, price in self.price.items()
+                         if not PAIRS[kind] <= bar[site]), default=math.inf) for bar in open_bars), default=0)
+
+    def fences(self):
+        """The sites that have a fence in the answer, each with its kind."""
+        return [(name, kind) for name, kind in zip(self.names, self.answer) if kind]
+
+    def claim(self):
+        """The answer as a certificate says it."""
+        cost = sum(self.price[kind] for _, kind in self.fences())
+        return {'cost': cost, 'fences': ['%s=%s' % fence for fence in self.fences()]}
+
+    def lines(self):
+        """The lines of the answer."""
+        if self.answer is None:
+            witness = self.certificate['witnesses'][0]
+            said = json.dumps({key: witness[key] for key in ('choices', 'order')}, separators=(',', ':'))
+            return ['none', self.paths[witness['test']], said]
+        return ['fenced %d' % self.claim()['cost']] + ['site %s %s' % fence for fence in self.fences()]
+
+
 def read(path, reader):
     """What this reader makes of the file."""
     try:
@@ -1425,14 +1567,23 @@ def read(path, reader):
         raise Unreadable('%s can not be read: %s' % (path, error))
 
 
+def checker_of(arguments):
+    """The checker of these files."""
+    *tests, prices, certificate = arguments
+    if tests[0] != '--sites':
+        test = read(tests[0], test_of)
+        return Checker(test, read(prices, prices_of), read(certificate, certificate_of))
+    found = [(path, read(path, test_of)) for path in tests[1:]]
+    return SitesChecker(found, read(prices, site_prices_of), read(certificate, sites_certificate_of))
+
+
 def main(arguments):
-    if len(arguments) != 3:
-        print('usage: check_certificate.py TEST PRICES CERTIFICATE', file=sys.stderr)
+    if len(arguments) != 3 and (len(arguments) < 4 or arguments[0] != '--sites'):
+        print('usage: check_certificate.py TEST PRICES CERTIFICATE\n'
+              '       check_certificate.py --sites FILE.. PRICES CERTIFICATE', file=sys.stderr)
         return 2
     try:
-        test = read(arguments[0], test_of)
-        prices = read(arguments[1], prices_of)
-        checker = Checker(test, prices, read(arguments[2], certificate_of))
+        checker = checker_of(arguments)
         checker.check()
         print('\n'.join(['yes'] + checker.lines()))
         return 0

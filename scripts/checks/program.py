@@ -18,6 +18,9 @@ from running import (EXAMPLES, PRICES, TOP, compact, program, ran, ran_on_termin
                      stored_answers, tests_of_examples, text_of, transcript, written)
 from verdicts import YES
 
+SEVERAL = r"\d+(?:, \d+)*(?: and \d+)?"
+PIECE = rf"in (?:ones? like )?cycles? {SEVERAL}|in \d+ more kinds?"
+
 
 def check_transcripts(checks):
     """All of scripts/transcripts/, with the files there."""
@@ -115,7 +118,8 @@ def told(test, block):
     rows = re.findall(r"(?m)^  (P(\d+):\d+) +line .*  ((?:reads|stores) .*)$", block)
     choices = []
     for hart, runs in enumerate(model.all_runs(test)):
-        does = {name: re.sub(r" (\(initial\)|from P\d+:\d+)", "", it) for name, of, it in rows if int(of) == hart}
+        source = r" (\(initial\)|from P\d+:\d+(, still in its store buffer)?)"
+        does = {name: re.sub(source, "", it) for name, of, it in rows if int(of) == hart}
         fits = [run.choices for run in runs if {it.name: done_by(test, it) for it in run.operations} == does]
         choices += fits[:1]
     return json.dumps({"choices": choices, "order": [name for name, _, _ in rows]})
@@ -137,17 +141,20 @@ def faults_of_chain(block, placed):
 
 def check_contradictions(checks, path, head, blocks, placed):
     """Of fences it is told why they rule the outcome out, in chains by fences of the answer, and what needs each."""
-    is_told = bool(blocks) and re.match(r"Each way to the outcome has |No way to the outcome is left ", blocks[0])
+    is_told = bool(blocks) and re.match(r"Each way to the outcome that |No values that the loads ", blocks[0])
     checks.expect(f"whether contradictions are told of {path}", head.startswith("fenced"), bool(is_told))
     chains = [block for block in blocks if re.match(r"(cycle|stale|not atomic) \d+", block)]
     checks.expect(f"whether a chain is told of {path}", bool(is_told) and blocks[0].startswith("Each"), bool(chains))
     for block in chains:
         checks.expect(f"what is wrong with this of {path}: {block}", [], [*faults_of_chain(block, placed)])
-    told = {block.split()[1].strip(",") for block in chains if block.startswith("cycle ")}
+    told = {block.split()[1]: block for block in chains if block.startswith("cycle ")}
     for fence, cycles in placed.items():
-        said = re.fullmatch(r": in (?:cycles? ([\d, and]*\d))?(?: and )?(?:\d+ more kinds?)?", cycles)
-        numbers = set(re.findall(r"\d+", said[1] or "") if said else [])
-        checks.check(f"{path}: whether {fence} is in cycles that are told{cycles}", said and numbers <= told)
+        said = re.fullmatch(rf": (?:{PIECE})(?:(?:,| and) (?:{PIECE}))*", cycles)
+        own, alike = (set(re.findall(r"\d+", " ".join(re.findall(rf"in {word}cycles? ({SEVERAL})", cycles))))
+                      for word in ("", "ones? like "))
+        where = rf"fence {fence[0]} before line {fence[1]} |fences \(rule 4"
+        is_right = said and own | alike <= told.keys() and all(re.search(where, told[number]) for number in own)
+        checks.check(f"{path}: whether {fence} is in cycles that are told{cycles}", is_right)
 
 
 def check_why(checks):
@@ -186,6 +193,36 @@ def check_forbidden(checks):
                 faults = [fence for fence, line in fences if fence not in rows[int(line) - 1]]
                 faults += faults_of_chain(block, {})
                 checks.expect(f"what is wrong with this of {path}: {block}", [], faults)
+
+
+def arrows_of(picture):
+    """The arrows of a picture in DOT that aren't program order, each as both its ends."""
+    return re.findall(r'(?m)^  "(P\d+:\d+)" -> "(P\d+:\d+)" \[label=" ', picture)
+
+
+def check_pictures(checks):
+    """`solve --dot` draws what `solve --why` tells: of each contradiction an arrow for each of its own, of each fence the
+    execution without it, and Graphviz's `dot`, where there is one, takes all without a word."""
+    for path in tests_of_examples():
+        folder, name = f"{checks.folder}/pictures", os.path.basename(path).removesuffix(".litmus")
+        os.makedirs(folder)
+        blocks = rvfence("solve", path, PRICES, "--why", "--dot", folder, "-q").out.split("\n\n")
+        drawn = {os.path.basename(it): text_of(it) for it in glob.glob(f"{folder}/*.dot")}
+        wanted = {f"{name}-execution.dot" for it in blocks if it.startswith("The outcome can be ")}
+        fences = map(re.compile(r"\S+ before (P\d+):(\d+) \(").match, blocks)
+        wanted |= {f"{name}-without-{it[1]}-{it[2]}.dot" for it in fences if it}
+        for block in blocks:
+            if number := re.match(r"(?:cycle|stale|not atomic) (\d+)", block):
+                file, names = f"{name}-cycle-{number[1]}.dot", re.findall(r"(?m)^  (P\d+:\d+) +line ", block)
+                wanted.add(file)
+                if block.startswith("cycle "):
+                    arrows = list(zip(names, names[1:] + names[:1]))
+                    checks.expect(f"the arrows of {file}", arrows, arrows_of(drawn.get(file, "")))
+        checks.expect(f"the pictures of {path}", sorted(wanted), sorted(drawn))
+        if shutil.which("dot") and drawn:
+            said = ran(["dot", "-Tsvg", "-o", "/dev/null", *(f"{folder}/{it}" for it in sorted(drawn))])
+            checks.expect(f"what dot says of the pictures of {path}", ("", "", 0), said)
+        shutil.rmtree(folder)
 
 
 def answer_of(found):
@@ -271,5 +308,5 @@ def check(run):
     ran([f"{TOP}/rvfence", "place", f"{EXAMPLES}/MP.litmus"], seconds=None)
     checks = Transcripts(run)
     for part in (check_transcripts, check_examples, check_idioms, check_documents, check_answers, check_why,
-                 check_forbidden, check_objects, check_messages, check_progress):
+                 check_forbidden, check_pictures, check_objects, check_messages, check_progress):
         part(checks)

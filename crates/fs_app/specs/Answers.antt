@@ -4,16 +4,23 @@ use Rattle.fs_app_io.specs.declared.source.Source.{Source}
 use Rattle.fs_app_io.specs.declared.status.Output.{Output}
 use Rattle.fs_app_io.specs.declared.status.Status.{Status}
 use Rattle.fs_app_io.specs.declared.status.Status.TheVariants.{Success, Denied, Failure}
-use Rattle.fs_app_place_order.specs.Place.{IsFencedText}
+use Rattle.fs_app_place_order.specs.Place.{ArePricesOf, IsFencedText}
 use Rattle.fs_app_place_order.specs.Order.{IsOrderAnswer}
 use Rattle.fs_report.specs.Objects.{AreOneAnswer}
 use Rattle.fs_app_solve.specs.Solve.{IsSolved}
+use Rattle.fs_app_solve_text.specs.Inserted.{IsInserted}
 use Rattle.fs_app_sites.specs.Solved.{IsSolved as IsSitesSolved}
 use Rattle.fs_app_sites.specs.declared.content.File.{File}
+use Rattle.fs_app_sites_check.specs.Checked.{IsSitesChecked}
 use Rattle.fs_app_audit.specs.Audit.{IsAnew, IsAudited, IsWritten, IsFirstAnewFault, IsFirstAuditFault, IsFirstWrittenFault}
 use Rattle.fs_app_audit.specs.Blocks.{AreBlocks, are_named, blocks_status, blocks_text}
 use Rattle.fs_app_audit.specs.declared.blocks.Block.{Block}
 use Rattle.fs_kinds.specs.declared.fault.Fault.{Fault}
+use Rattle.fs_kinds.specs.declared.placement.Entry.{Entry}
+use Rattle.fs_kinds.specs.PriceTable.{PriceTable}
+use Rattle.fs_litmus.specs.Reads.{Reads}
+use Rattle.fs_model.specs.Allows.{IsCheapest}
+use Rattle.fs_model.specs.declared.test.Test.{Test as Program}
 use Rattle.fs_app_check.specs.Check.{IsChecked, AreOneVerdict}
 use Rattle.fs_app_test.specs.declared.said.Kind.{Kind}
 use Rattle.fs_app_test.specs.declared.said.Line.{Line}
@@ -29,6 +36,7 @@ use Rattle.fs_app_command_line.specs.declared.command.Solve.{Solve}
 use Rattle.fs_app_command_line.specs.declared.command.Sites.{Sites}
 use Rattle.fs_app_command_line.specs.declared.command.Audit.{Audit}
 use Rattle.fs_app_command_line.specs.declared.command.Check.{Check}
+use Rattle.fs_app_command_line.specs.declared.command.CheckSites.{CheckSites}
 use Rattle.fs_app_files.specs.declared.papers.Papers.{Papers}
 use Rattle.fs_app_files.specs.Judging.{AreJudged}
 use Rattle.fs_app_why_kinds.specs.declared.told.Telling.{Telling}
@@ -74,10 +82,27 @@ pub record IsSolvedAndTold (is_json : Bool) (asked : Option Telling) (test price
   pub told : IsToldBy asked (λ telling. IsSolveWhy telling test prices lines output.status) below
   pub text : string_bytes output.text ≡ shown ++ below
 
+-- The test that the bytes read as has these fences at these prices: the first of the cheapest that rule its outcome out.
+-- The text is the file with them, or the fenced test in print.
+pub record IsFencedFile (test prices text : List ℕ) : Type 0 where
+  pub the_test : Program
+  pub table : PriceTable
+  pub placement : List Entry
+  pub reads : Reads test the_test
+  pub priced : ArePricesOf prices table
+  pub cheapest : IsCheapest the_test table placement
+  pub inserted : IsInserted test the_test placement text
+
+-- the answer, and what is told below it; or with `--write`, where the answer is fences, the file with these
+pub data IsSolveText (solve : Solve) (test prices : List ℕ) (output : Output) : Type 0 where
+  said : IsSolvedAndTold solve.json (telling_of solve.why) test prices output → IsSolveText solve test prices output
+  written : solve.write ≡ true → IsFencedFile test prices (string_bytes output.text) → output.status ≡ Success
+      → IsSolveText solve test prices output
+
 pub record AnswersSolve (solve : Solve) (papers : Papers) (output : Output) : Type 0 where
   pub test_name : papers.test.name.now ≡ solve.test.now
   pub prices_name : papers.prices.name.now ≡ solve.prices.now
-  pub answer : IsSolvedAndTold solve.json (telling_of solve.why) papers.test.bytes.items papers.prices.bytes.items output
+  pub answer : IsSolveText solve papers.test.bytes.items papers.prices.bytes.items output
 
 -- the answer to some files and the prices that were read; or no answer, since a file has a fault
 pub data AnswersSites (sites : Sites) (papers : Papers) (output : Output) : Type 0 where
@@ -139,6 +164,16 @@ pub record AnswersCheck (check : Check) (papers : Papers) (output : Output) : Ty
       (λ telling. IsCertifiedWhy telling papers.test.bytes.items papers.evidence.bytes.items) below
   pub text : string_bytes output.text ≡ in_form check.json lines object ++ below
 
+-- the verdict on the certificate that was read, for some files and the prices that were read; or none, since a file has
+-- a fault
+pub data AnswersCheckSites (check : CheckSites) (papers : Papers) (output : Output) : Type 0 where
+  checked : (files : List File) (lines object : List ℕ) → papers.prices.name.now ≡ check.prices.now
+      → papers.evidence.name.now ≡ check.certificate.now
+      → IsSitesChecked files papers.prices.bytes.items papers.evidence.bytes.items lines object output.status
+      → string_bytes output.text ≡ in_form check.json lines object
+      → AnswersCheckSites check papers output
+  refused : output.status ≡ Failure → AnswersCheckSites check papers output
+
 -- The text, but for what is told below it, and the status are those of the same lines. Each says what is true of some
 -- bytes, or of a file that wasn't read; what is told is told of these bytes.
 pub record AnswersLines (test : Test) (output : Output) : Type 0 where
@@ -169,4 +204,5 @@ Answers (task.Solve solve) papers output = AnswersSolve solve papers output
 Answers (task.Sites sites) papers output = AnswersSites sites papers output
 Answers (task.Audit audit) papers output = AnswersAudit audit papers output
 Answers (task.Check check) papers output = AnswersCheck check papers output
+Answers (task.CheckSites check) papers output = AnswersCheckSites check papers output
 Answers (task.Completions shell) papers output = output.status ≡ Success

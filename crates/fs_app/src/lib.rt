@@ -3,11 +3,13 @@
 
 mod audits;
 mod failure;
+mod pictures;
 mod program;
 mod progress;
 mod sites;
 mod states;
 mod telling;
+mod write;
 
 pub use fs_app_audit::{Audited, run_anew, run_audit, run_written};
 pub use fs_app_check::{Checked, run_check};

@@ -12,16 +12,19 @@ ghost use Rattle.fs_app_solve.specs.Found.{IsFound, Prints, lines_of};
 ghost use Rattle.fs_app_check.specs.Check.{IsChecked, AreOneVerdict, IsFirstCheckFault};
 ghost use Rattle.fs_app_test.specs.Report.{report_text, json_text};
 ghost use Rattle.fs_app_test.specs.Status.{report_status};
-ghost use Rattle.fs_app.specs.Answers.{IsSolvedAndTold, IsSolvedIn, offered, in_form, Answers, AnswersTest, AnswersPlace};
+ghost use Rattle.fs_app.specs.Answers.{IsSolveText, IsSolvedAndTold, IsSolvedIn, offered, in_form, Answers};
+ghost use Rattle.fs_app.specs.Answers.{AnswersTest, AnswersPlace};
 ghost use Rattle.fs_app.specs.Answers.{AnswersLines, AnswersOrder, AnswersSolve, AnswersCheck};
 ghost use Rattle.fs_app.specs.Telling.{is_yes, telling_of};
 
 use crate::audits::answer_audit;
 use crate::failure::Failure;
+use crate::pictures::{draw_certified, draw_found, draw_ordered, draw_tests};
 use crate::progress::Progress;
-use crate::sites::answer_sites;
+use crate::sites::{answer_check_sites, answer_sites};
 use crate::states::{answer_log, answer_states};
 use crate::telling::{answer_why, is_yes, order_why, solve_why, telling_of, tests_why, with_below};
+use crate::write::fenced_file;
 use clap::error::ErrorKind;
 use fs_app_check::{Checked, run_check};
 use fs_app_command_line::{
@@ -48,7 +51,7 @@ use std::thread::Threads;
 use std::{env, io};
 
 /// Certificates are read up to this many bytes.
-const CERTIFICATE_LIMIT: usize = 1_073_741_824;
+pub(crate) const CERTIFICATE_LIMIT: usize = 1_073_741_824;
 
 /// What is said on standard error beside the line of a fault.
 #[derive(Clone, Copy)]
@@ -63,13 +66,13 @@ pub(crate) struct Voice {
 
 impl Voice {
     /// What is said for a request, of which some depends on whether standard error is a terminal. `quiet` outdoes all
-    /// else. Whoever writes a test has `test`, `states` and `audit` judge it, and `solve --sites` takes several, so there
+    /// else. Whoever writes a test has `test`, `states` and `audit` judge it, and with `--sites` there are several, so there
     /// faults are always explained.
     fn of(request: &Request<'_>, is_terminal: bool) -> Voice {
         let notes = !request.quiet;
         let judges = matches!(
             request.task,
-            Task::Test(_) | Task::States(_) | Task::Audit(_) | Task::Sites(_)
+            Task::Test(_) | Task::States(_) | Task::Audit(_) | Task::Sites(_) | Task::CheckSites(_)
         );
         Voice {
             notes,
@@ -249,6 +252,7 @@ fn answer<'a, R: Files + Input + Eprint + AllocGlobal + Clock + Threads + Wait +
         Task::Sites(sites) => answer_sites(rt, sites, voice, papers),
         Task::Audit(audit) => answer_audit(rt, audit, voice, papers),
         Task::Check(check) => answer_check(rt, check, papers),
+        Task::CheckSites(check) => answer_check_sites(rt, check, voice, papers),
         Task::Completions(shell) => Ok(Output {
             text: completion_script(rt.alloc(), *shell)?,
             status: Status::Success,
@@ -335,12 +339,15 @@ fn judged_tests<R: Files + Input + Eprint + AllocGlobal + Threads + Sync>(
     let wants = Wants {
         messages: voice.explains,
         notes: test.json,
-        tests: telling_of(test.why).is_some(),
+        tests: telling_of(test.why).is_some() || test.dot.is_some(),
     };
     let files = sources(rt, &test.files)?;
     let judged = judge_files(rt, &files, test.jobs, wants, expecting)?;
     let not_met = expecting.not_met(rt.alloc())?;
     let output = tests_output(rt.alloc(), test, &judged, not_met.is_empty())?;
+    if let Some(folder) = test.dot {
+        draw_tests(rt, folder, test.why, &judged)?;
+    }
     for message in &judged.messages {
         tell(rt, message);
     }
@@ -446,6 +453,9 @@ fn answer_order<'a, R: Files + Input + AllocGlobal>(
     papers.read_evidence(rt, order.witness, INPUT_LIMIT)?;
     let verdict = ordered(rt.alloc(), papers)?;
     let below = order_why(rt.alloc(), order.why, papers)?;
+    if let Some(folder) = order.dot {
+        draw_ordered(rt, folder, papers)?;
+    }
     let output = with_below(verdict, &below)?;
     Ok(output)
 }
@@ -482,10 +492,41 @@ fn answer_solve<'a, R: Files + Input + Eprint + AllocGlobal + Clock + Threads + 
     let found = found?;
     let output = printed(rt.alloc(), &found, solve.json)?;
     let output = certified(rt, solve, papers, &found, output)?;
+    if let Some(folder) = solve.dot {
+        draw_found(rt, folder, solve.why, papers, &found)?;
+    }
     if voice.notes && found.is_free() {
         note_vacuous(rt, &papers.test.bytes)?;
     }
+    let output = said_or_written(rt.alloc(), solve, papers, &found, output)?;
     Ok(output)
+}
+
+/// What was said; or, where that is asked for and the answer is fences, the file with these.
+fn said_or_written(
+    alloc: Global,
+    solve: &Solve<'_>,
+    papers: &Papers<'_>,
+    found: &Found,
+    said: Output,
+) -> Result<Output, Fault>
+    requires found { (limit : ℕ) × IsFound papers.now.test.bytes.items papers.now.prices.bytes.items limit
+        (arc_value found.now.question) found.now.solved }
+    requires said { IsSolvedAndTold solve.now.json (telling_of solve.now.why) papers.now.test.bytes.items
+        papers.now.prices.bytes.items said }
+    ensures { IfOk result
+        (IsSolveText solve.now papers.now.test.bytes.items papers.now.prices.bytes.items) }
+{
+    if !solve.write {
+        return Ok(said);
+    }
+    match fenced_file(alloc, &papers.test.bytes, found)? {
+        Some(text) => Ok(Output {
+            text,
+            status: Status::Success,
+        }),
+        None => Ok(said),
+    }
 }
 
 /// Is a certificate of the answer asked for, or what one tells?
@@ -556,7 +597,7 @@ fn note_vacuous<R: Files + Eprint + AllocGlobal>(rt: &R, test: &[u8]) -> Result<
 }
 
 /// The output, or with its status the object in its place.
-fn in_form(output: Output, object: String, is_json: bool) -> Output
+pub(crate) fn in_form(output: Output, object: String, is_json: bool) -> Output
     ensures text { string_bytes result.text ≡ in_form is_json (string_bytes output.text) (string_bytes object) }
     ensures status { result.status ≡ output.status }
 {
@@ -607,9 +648,25 @@ fn answer_check<'a, R: Files + Input + AllocGlobal>(
         &papers.test.bytes,
         &papers.evidence.bytes,
     )?;
+    draw_checked(rt, check, checked.output.status, papers)?;
     let shown = in_form(checked.output, checked.object, check.json);
     let output = with_below(shown, &below)?;
     Ok(output)
+}
+
+/// Draws what is told below a yes, where that is asked for.
+fn draw_checked<R: Files + AllocGlobal>(
+    rt: &R,
+    check: &Check<'_>,
+    status: Status,
+    papers: &Papers<'_>,
+) -> Result<(), Fault> {
+    match check.dot {
+        Some(folder) if is_yes(status) => {
+            draw_certified(rt, folder, check.why, papers, &papers.evidence.bytes)
+        }
+        _ => Ok(()),
+    }
 }
 
 /// Which contradictions are to be told below a verdict on a certificate: none below a no.

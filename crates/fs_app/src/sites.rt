@@ -1,18 +1,21 @@
-//! What `solve --sites` answers of its files.
+//! What `solve --sites` answers of its files, and what `check --sites` says of a certificate of such an answer.
 
 ghost use Rattle.std.specs.Prelude.{◌≡◌, List, IfOk, string_bytes};
 ghost use Rattle.fs_app_io.specs.declared.status.Status.TheVariants.{Failure as Failed};
 ghost use Rattle.fs_app_sites.specs.Solved.{IsSolved};
 ghost use Rattle.fs_app_sites.specs.declared.content.File.{File as SitesFile};
-ghost use Rattle.fs_app.specs.Answers.{AnswersSites};
+ghost use Rattle.fs_app_sites_check.specs.Checked.{IsSitesChecked};
+ghost use Rattle.fs_app.specs.Answers.{AnswersSites, AnswersCheckSites};
 
 use crate::failure::Failure;
-use crate::program::{Voice, failure_of, refused, report};
-use fs_app_command_line::{MOST_NODES, Sites};
+use crate::program::{CERTIFICATE_LIMIT, Voice, failure_of, in_form, refused, report};
+use fs_app_check::Checked;
+use fs_app_command_line::{CheckSites, MOST_NODES, Sites};
 use fs_app_error_messages::{explain_test, shown_name};
 use fs_app_files::{Paper, Papers, fault_object};
-use fs_app_io::{Output, Source, sources, tell};
+use fs_app_io::{Output, Source, sources, tell, write_whole};
 use fs_app_sites::{File, Solved, check_file, check_prices, first_at_fault, run_sites};
+use fs_app_sites_check::{run_sites_certified, run_sites_check};
 use fs_app_test::{Note, test_file, test_objects};
 use fs_kinds::Fault;
 use std::alloc::{AllocError, Global};
@@ -69,14 +72,50 @@ fn solved<'b, R: Files + Input + AllocGlobal>(
         × IsSolved sites.now.json files prices.now (string_bytes solved.output.text) solved.output.status) }
 {
     let files = read_files(rt, sources, blamed)?;
-    let limit = sites.nodes.clamp(1, MOST_NODES) as usize;
-    match run_sites(rt.alloc(), &files, prices, sites.json, MOST_ROUNDS, limit) {
+    match answered(rt, sites, &files, prices) {
         Ok(solved) => Ok(solved),
         Err(fault) => {
             blame(rt.alloc(), sources, &files, prices, fault, blamed)?;
             Err(fault)
         }
     }
+}
+
+/// The answer. Where a certificate of it is asked for, that is written first.
+fn answered<R: Files + AllocGlobal>(
+    rt: &R,
+    sites: &Sites<'_>,
+    files: &[File],
+    prices: &[u8],
+) -> Result<Solved, Fault>
+    ensures { IfOk result (λ solved.
+        IsSolved sites.now.json files.now prices.now (string_bytes solved.output.text) solved.output.status) }
+{
+    let limit = sites.nodes.clamp(1, MOST_NODES) as usize;
+    match sites.certificate {
+        Some(path) => certified(rt, path, files, prices, sites.json, limit),
+        None => run_sites(rt.alloc(), files, prices, sites.json, MOST_ROUNDS, limit),
+    }
+}
+
+/// The answer, once its certificate is written. F22 where the checker refuses what was made; no test meets it.
+fn certified<R: Files + AllocGlobal>(
+    rt: &R,
+    path: &str,
+    files: &[File],
+    prices: &[u8],
+    is_json: bool,
+    limit: usize,
+) -> Result<Solved, Fault>
+    ensures { IfOk result (λ solved.
+        IsSolved is_json files.now prices.now (string_bytes solved.output.text) solved.output.status) }
+{
+    let made = run_sites_certified(rt.alloc(), files, prices, is_json, MOST_ROUNDS, limit)?;
+    let Some(certificate) = &made.certificate else {
+        return Err(Fault::Unmatched);
+    };
+    write_whole(rt, path, certificate.as_bytes())?;
+    Ok(made.solved)
 }
 
 /// The files, each read and checked before the next one, so that the first fault is that of the first file.
@@ -111,7 +150,10 @@ fn blame<'b>(
     blamed: &mut Papers<'b>,
 ) -> Result<(), Fault> {
     *blamed = Papers::new(alloc);
-    if matches!(fault, Fault::Memory | Fault::NodeLimit) {
+    if !matches!(
+        fault,
+        Fault::TooManyTraces | Fault::Astray { .. } | Fault::TooManyCandidates
+    ) {
         return Ok(());
     }
     if let Some(number) = first_at_fault(alloc, files, prices, fault) {
@@ -123,6 +165,48 @@ fn blame<'b>(
         }
     }
     Ok(())
+}
+
+/// What `check --sites` answers of its files and a certificate. A fault is said as `answer_sites` says it.
+pub(crate) fn answer_check_sites<'a, R: Files + Input + Eprint + AllocGlobal>(
+    rt: &R,
+    check: &'a CheckSites<'a>,
+    voice: Voice,
+    papers: &mut Papers<'a>,
+) -> Result<Output, Fault>
+    ensures { IfOk result (AnswersCheckSites check.now papers.new) }
+{
+    papers.read_prices(rt, check.prices)?;
+    check_prices(rt.alloc(), &papers.prices.bytes)?;
+    papers.read_evidence(rt, check.certificate, CERTIFICATE_LIMIT)?;
+    let sources = sources(rt, &check.files)?;
+    let mut blamed = Papers::new(rt.alloc());
+    match checked(rt, &sources, papers, &mut blamed) {
+        Ok(checked) => Ok(in_form(checked.output, checked.object, check.json)),
+        Err(fault) => failed(rt, check.json, fault, voice, &blamed),
+    }
+}
+
+/// The verdict on the certificate that was read. Where there is a fault of a file that file is left in `blamed`.
+fn checked<'b, R: Files + Input + AllocGlobal>(
+    rt: &R,
+    sources: &'b [Source],
+    papers: &Papers<'_>,
+    blamed: &mut Papers<'b>,
+) -> Result<Checked, Fault>
+    ensures { IfOk result (λ checked. (files : List SitesFile)
+        × IsSitesChecked files papers.now.prices.bytes.items papers.now.evidence.bytes.items
+        (string_bytes checked.output.text) (string_bytes checked.object) checked.output.status) }
+{
+    let files = read_files(rt, sources, blamed)?;
+    let (prices, certificate) = (&papers.prices.bytes, &papers.evidence.bytes);
+    match run_sites_check(rt.alloc(), &files, prices, certificate) {
+        Ok(checked) => Ok(checked),
+        Err(fault) => {
+            blame(rt.alloc(), sources, &files, prices, fault, blamed)?;
+            Err(fault)
+        }
+    }
 }
 
 /// Says the fault of a file, and answers its object where JSON is asked for.

@@ -210,7 +210,7 @@ fn push_told(
 }
 
 /// The bytes of the test of this number; none where there is no such test.
-fn test_at(tests: &[Vec<u8>], number: usize) -> &[u8]
+pub(crate) fn test_at(tests: &[Vec<u8>], number: usize) -> &[u8]
     ensures { result.now ≡ slice_index_or (map (λ test. test.items) tests.now) number [] }
 {
     if number < tests.len() {

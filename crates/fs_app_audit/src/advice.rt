@@ -155,13 +155,8 @@ fn advice_at(
     }
 }
 
-/// What is advised of instruction `at`, mostly nothing. The cube of the code's length at most.
-pub(crate) fn advice_of(
-    placement: &Placement,
-    hart: u8,
-    code: &[Instr],
-    at: usize,
-) -> Option<Advice>
+/// What is advised anew of instruction `at`, mostly nothing. The cube of the code's length at most.
+pub fn advice_of(placement: &Placement, hart: u8, code: &[Instr], at: usize) -> Option<Advice>
     requires { length code.now ≤ most_instructions }
     ensures { result ≡ advice_of placement.now hart code.now at }
 {

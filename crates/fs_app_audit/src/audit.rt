@@ -264,8 +264,8 @@ fn audit_text(alloc: Global, found: &Findings) -> Result<String, AllocError>
     Ok(text)
 }
 
-/// The status of what was found anew.
-pub(crate) fn status_of(found: &Findings) -> Status
+/// The exit status of what was found anew.
+pub fn status_of(found: &Findings) -> Status
     requires { IsSound found.now }
     ensures { result ≡ audit_status found.now.written.kind (findings_of found.now).codes found.now.best }
 {

@@ -248,8 +248,8 @@ fn have_names(files: &[Source], blocks: &[Block]) -> bool
         .all(|(file, block)| is_named(file, block))
 }
 
-/// Are these the blocks of the files, in their order?
-fn are_named(files: &[Source], blocks: &[Block]) -> bool
+/// Are these the blocks of the files, by their names, in their order?
+pub fn are_named(files: &[Source], blocks: &[Block]) -> bool
     ensures { result ≡ are_named files.now blocks.now }
 {
     files.len() == blocks.len() && have_names(files, blocks)
@@ -417,8 +417,9 @@ fn has(status: Status, blocks: &[Block]) -> bool
     blocks.iter().any(|block| status == block.status)
 }
 
-/// 1 where that is the status of some file; else 2 where one has a fault; else 4 where one is vacuous; else 0.
-fn blocks_status(blocks: &[Block]) -> Status
+/// The exit status of a run: 1 where that is the status of some file; else 2 where one has a fault; else 4 where one is
+/// vacuous; else 0.
+pub fn blocks_status(blocks: &[Block]) -> Status
     ensures { result ≡ blocks_status blocks.now }
 {
     if has(Status::Denied, blocks) {

@@ -42,28 +42,28 @@ use std::sync::Arc;
 
 /// A test as it is written.
 #[derive(Drop)]
-pub(crate) struct Written {
-    pub(crate) test: Arc<Test>,
+pub struct Written {
+    pub test: Arc<Test>,
     /// What is said of it.
-    pub(crate) kind: Kind,
+    pub kind: Kind,
 }
 
-/// What was found.
+/// What was found anew.
 #[derive(Drop)]
-pub(crate) struct Findings {
-    pub(crate) written: Written,
+pub struct Findings {
+    pub written: Written,
     /// The lines in which its instructions stand, hart by hart.
-    pub(crate) lines: Vec<List<usize>>,
+    pub lines: Vec<List<usize>>,
     /// The test with the FENCEs that count.
-    pub(crate) asked: Arc<Test>,
+    pub asked: Arc<Test>,
     /// The test without FENCEs, and the prices.
-    pub(crate) question: Arc<Priced>,
+    pub question: Arc<Priced>,
     /// The FENCEs as a placement over the slots of the test without them, as far as they fit.
-    pub(crate) fences: Placement,
+    pub fences: Placement,
     /// Do all fit?
-    pub(crate) all_fit: bool,
+    pub all_fit: bool,
     /// The fences that are advised.
-    pub(crate) best: Option<Placement>,
+    pub best: Option<Placement>,
 }
 
 // ---- the FENCEs as they are written
@@ -323,8 +323,8 @@ fn best(
 
 // ---- all of it
 
-/// The test that the bytes are, to be shared.
-pub(crate) fn read_shared(alloc: Global, bytes: &[u8]) -> Result<Arc<Test>, Fault>
+/// The test that the bytes are, to be shared. Faults and cost are those of `read_test` of fs_litmus.
+pub fn read_shared(alloc: Global, bytes: &[u8]) -> Result<Arc<Test>, Fault>
     ensures ok { IfOk result (λ test. Reads bytes.now (arc_value test)) }
     ensures test { IfOk result (λ test. IsTest (arc_value test)) }
     ensures err { IfErr result (λ f. f ≢ Fault.Memory → IsTestFault bytes.now f) }
@@ -384,8 +384,9 @@ fn bare_question(
     Ok(Arc::new(alloc, Priced { test, prices })?)
 }
 
-/// What is found of a test that was judged as it is written.
-pub(crate) fn find_judged(
+/// What is found anew of a test that was judged as it is written. Faults and cost are those of `run_anew` behind the
+/// first verdict.
+pub fn find_judged(
     alloc: Global,
     purpose: Purpose,
     bytes: &[u8],
@@ -424,8 +425,8 @@ pub(crate) fn find_judged(
     })
 }
 
-/// What is found of a test file and a file of prices.
-pub(crate) fn find(
+/// What is found anew of a test file and a file of prices. Faults and cost are those of `run_anew`.
+pub fn find(
     alloc: Global,
     purpose: Purpose,
     test: &[u8],

@@ -25,13 +25,13 @@ use std::sync::Arc;
 
 /// What was found in place.
 #[derive(Drop)]
-pub(crate) struct InPlace {
+pub struct InPlace {
     /// The test in which FENCEs order no memory.
-    pub(crate) empty: Arc<Test>,
+    pub empty: Arc<Test>,
     /// What may stand in the places of the FENCEs.
-    pub(crate) offers: Offers,
+    pub offers: Offers,
     /// The fences that are advised there.
-    pub(crate) advised: Placement,
+    pub advised: Placement,
 }
 
 /// The test of the bytes in which FENCEs order no memory.
@@ -93,8 +93,9 @@ fn advised_of(
     searched(alloc, question, limit)
 }
 
-/// What is found in place of a test that is forbidden as it is written, at these prices.
-pub(crate) fn find_in_place(
+/// What is found in place of a test that is forbidden as it is written, at these prices. The faults are those of reading
+/// and of the search of the test in which FENCEs order no memory, and so is the cost.
+pub fn find_in_place(
     alloc: Global,
     bytes: &[u8],
     prices: &Prices,

@@ -5,7 +5,6 @@
 #![tactic(auto)]
 
 mod advice;
-mod advice_in_place;
 mod asked;
 mod audit;
 mod blocks;
@@ -13,6 +12,7 @@ mod easing;
 mod emptying;
 mod findings;
 mod in_place;
+mod in_place_advice;
 mod laws;
 mod places;
 mod priced;
@@ -23,13 +23,20 @@ pub mod slices;
 mod standing;
 mod written;
 
-pub use advice::Advice;
+pub use advice::{Advice, advice_of};
 pub use asked::Purpose;
-pub use audit::{Audited, run_anew, run_audit};
-pub use blocks::{Block, Found, audit_file, blocks_of, blocks_output};
+pub use audit::{Audited, run_anew, run_audit, status_of};
+pub use blocks::{Block, Found, are_named, audit_file, blocks_of, blocks_output, blocks_status};
 pub use easing::eased;
 pub use emptying::emptied;
+pub use findings::{Findings, Written, find, find_judged, read_shared};
 pub use fs_app_audit_text::{is_fence, memory_kind, names_devices};
+pub use in_place::{InPlace, find_in_place};
+pub use in_place_advice::advice_in_place;
 pub use laws::{advised_fences_are_needed, lines_can_be_followed};
+pub use places::{offers_in_place, written_cost};
+pub use priced::Priced;
 pub use removal::{position, unfenced};
+pub use report::{advice_text, fence_letters, line_of};
+pub use report_in_place::in_place_status;
 pub use written::run_written;

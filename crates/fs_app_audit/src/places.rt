@@ -134,11 +134,7 @@ fn offers_at(
 /// What may stand in the places of the FENCEs of this code: none, the FENCE that is written, and each kind that has a
 /// price and orders less. A written kind without a price costs what the cheapest does that orders all that it orders.
 /// The cube of a code's length at most. Fails only for want of memory.
-pub(crate) fn offers_in_place(
-    alloc: Global,
-    prices: &Prices,
-    codes: &[Code],
-) -> Result<Offers, AllocError>
+pub fn offers_in_place(alloc: Global, prices: &Prices, codes: &[Code]) -> Result<Offers, AllocError>
     requires harts { length codes.now ≤ most_harts }
     requires lengths { All (λ code. length code ≤ most_instructions) codes.now }
     ensures { IfOk result (λ offers. offers ≡ offers_in_place prices.now codes.now) }
@@ -150,7 +146,7 @@ pub(crate) fn offers_in_place(
 }
 
 /// What the FENCEs cost as they are written. It calls itself once for each place.
-pub(crate) fn written_cost(offers: &[Offer]) -> u128
+pub fn written_cost(offers: &[Offer]) -> u128
     ensures value { result ≡ written_cost offers.now }
     ensures most { result ≤ 2 ^ 32 * length offers.now }
 {

@@ -7,9 +7,9 @@ use std::sync::Arc;
 
 /// A test, whose outcome is to be ruled out, and the prices of fences.
 #[derive(Drop)]
-pub(crate) struct Priced {
-    pub(crate) test: Arc<Test>,
-    pub(crate) prices: Prices,
+pub struct Priced {
+    pub test: Arc<Test>,
+    pub prices: Prices,
 }
 
 impl Model for Priced {

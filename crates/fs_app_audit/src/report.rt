@@ -27,8 +27,9 @@ const PLACE_WIDTH: usize = 5;
 
 const FENCE_WIDTH: usize = 9;
 
-/// The letters of a FENCE, such as `rw,w` or `tso`; of `fence.i` its one.
-fn fence_letters(alloc: Global, instr: Instr) -> Result<String, AllocError>
+/// The letters of a FENCE, such as `rw,w` or `tso`; of `fence.i` its one; of another instruction `none`. The error is
+/// want of memory.
+pub fn fence_letters(alloc: Global, instr: Instr) -> Result<String, AllocError>
     ensures { IfOk result (λ text. string_bytes text ≡ fence_letters instr) }
 {
     match instr {
@@ -52,7 +53,8 @@ fn about(instr: Instr) -> &'static str
     }
 }
 
-fn advice_text(alloc: Global, instr: Instr, advice: Advice) -> Result<String, AllocError>
+/// The words of the advice on this instruction. The error is want of memory.
+pub fn advice_text(alloc: Global, instr: Instr, advice: Advice) -> Result<String, AllocError>
     ensures { IfOk result (λ text. string_bytes text ≡ advice_text instr advice) }
 {
     let about = about(instr);
@@ -123,8 +125,8 @@ fn lines_of_hart(lines: &[List<usize>], hart: u8) -> &[usize]
     }
 }
 
-/// The line of the file in which instruction `at` of the hart stands.
-pub(crate) fn line_of(lines: &[List<usize>], hart: u8, at: usize) -> usize
+/// The line of the file in which instruction `at` of the hart stands; 0 where there is none.
+pub fn line_of(lines: &[List<usize>], hart: u8, at: usize) -> usize
     ensures { result ≡ line_of lines.now hart at }
 {
     lines_of_hart(lines, hart).get(at).copied().unwrap_or(0)

@@ -7,7 +7,7 @@ ghost use Rattle.fs_kinds.specs.PriceTable.{are_offered};
 ghost use Rattle.fs_app_audit.specs.InPlace.{anew_text, code_in_place, costs_line, in_place_status, lines_in_place};
 ghost use Rattle.fs_app_audit.specs.InPlace.{vacuous_line};
 
-use crate::advice_in_place::{advice_in_place, are_kept};
+use crate::in_place_advice::{advice_in_place, are_kept};
 use crate::report::{advised, line_of};
 use fs_app_io::Status;
 use fs_instr::Instr;
@@ -99,7 +99,7 @@ pub(crate) fn vacuous_line(alloc: Global, written: u128, why: &str) -> Result<St
 }
 
 /// The exit status of one that is forbidden: 0 where each FENCE stays as it is, else 1.
-pub(crate) fn in_place_status(prices: &Prices, codes: &[Code], placement: &Placement) -> Status
+pub fn in_place_status(prices: &Prices, codes: &[Code], placement: &Placement) -> Status
     requires harts { length codes.now ≤ most_harts }
     requires lengths { All (λ code. length code ≤ most_instructions) codes.now }
     ensures { result ≡ in_place_status prices.now codes.now placement.now }

@@ -39,6 +39,9 @@ With --json it prints a JSON object for each file, a line each, and nothing coun
 (here in two lines). Where the outcome is allowed, the witness is an execution that shows it,
 which `order` reads. Of a file with a fault the object has line, column and a message.
 
+With --dot FOLDER a picture of each execution and of each contradiction that --why tells is
+written into the folder, for Graphviz's `dot`: of SB.litmus SB-execution.dot or SB-cycle-1.dot.
+
 With --expect each file says what is expected of its test, in a comment as
 (* expect forbidden *), or `allowed` or `vacuous`. With --expect=LIST a file does, with lines
 as `SB allowed`: the name of a test, and one of these words. A line that isn't as expected
@@ -183,6 +186,11 @@ Where the outcome is vacuous (`rvfence test --help`), a note on standard error s
 With --cert PATH a certificate of the answer is written to PATH first, which `check` reads
 and judges without a search.
 
+With --write FILE itself is printed with the fences: each in a row of its own before its
+instruction. Else nothing changes. Below `none` there is nothing to write, and it is printed
+as ever. With --dot FOLDER pictures are written of what --why tells, as `test` does it, and
+of the execution without each fence as SB-without-P0-2.dot.
+
 With --workers N up to N threads search. The fences are the same for every number. One
 thread begins; the others join it only where many placements are still to be judged once
 it has made its plan, which few tests need.
@@ -200,7 +208,7 @@ each test out. A site's fence is paid once:
 
 Elsewhere no fence is placed. Below `none` stands first the file whose outcome is shown, even
 with rw,rw at every site. --json has sites in place of fences, and the file. PRICES have no
-weights then, and there is no --workers, --cert or --why.
+weights then, and there is no --workers, --write, --why or --dot.
 
 PRICES offers kinds, each for 1 to 1000000, and rw,rw must be one of them, as in
 {\"w,w\":2,\"rw,rw\":10}. Slots may have weights that multiply the price.
@@ -290,6 +298,8 @@ With --json it prints a JSON object, in one line, with the answer as `solve --js
 
 So is a fault, as of `test --json`, beside its line.
 
+With --sites the certificate is of `solve --sites --cert`, for the same files in the same order.
+
 A certificate is a JSON file with the answer, a cycle for each candidate execution that
 shows the outcome (in version 4 a refutation of them all), a tree in which nothing better
 than the answer is left, and the executions that the tree names. docs/CERTIFICATE.md says
@@ -303,6 +313,7 @@ Reasons, where K counts from 0:
   tree         the items are not one whole tree
   node K       something better than the answer is left at this item
   witness K    an item needs this execution, and it isn't there or shows nothing there
+  cycles K     with --sites: the test of this number isn't refuted under the answer
 
 Exit status:
   0  yes
@@ -381,11 +392,19 @@ const TEST_WHY_HELP: &str =
 const WITHOUT_HELP: &str =
     "Tell contradictions and executions without fences (=all, or of one fence =P1:6); no --json";
 
+const DOT_HELP: &str =
+    "Folder to write pictures of what --why tells into, as files for Graphviz's dot";
+
+const ORDER_DOT_HELP: &str =
+    "Folder to write a picture of the execution of a yes into, for Graphviz's dot";
+
 const SHELL_HELP: &str = "Which shell is to read it";
 
 const ANEW_HELP: &str = "Compare with the cheapest fences in the test without FENCEs";
 
 const WRITE_HELP: &str = "Print the file with its FENCEs as advised";
+
+const SOLVE_WRITE_HELP: &str = "Print FILE with the fences in it; no --json, no --why";
 
 const IN_PLACE_HELP: &str = "Write FENCEs as advised into the file itself";
 
@@ -394,7 +413,12 @@ const QUIET_HELP: &str = "Say nothing on standard error but a line for what is w
 const VERBOSE_HELP: &str = "Explain a fault: where it is, and what was expected";
 
 const SITES_HELP: &str =
-    "Find fences of labelled sites, for all tests given; not with --workers, --cert, --why";
+    "Find fences of labelled sites, for all tests given; not with --workers, --write, --why, --dot";
+
+const CHECK_SITES_HELP: &str =
+    "Of labelled sites, and any number of files before PRICES; not with --why, --dot";
+
+const FILES_AND_PRICES_HELP: &str = "Litmus tests, folders and @lists, and behind them PRICES";
 
 const NODES_HELP: &str = "Most nodes that the search may make, 1 to 1000000";
 
@@ -434,6 +458,7 @@ pub enum Task<'a> {
     Sites(Sites<'a>),
     Audit(Audit<'a>),
     Check(Check<'a>),
+    CheckSites(CheckSites<'a>),
     /// To print the script for this shell.
     Completions(Shell),
 }
@@ -447,6 +472,7 @@ impl Task<'_> {
             Task::Solve(solve) => solve.json,
             Task::Sites(sites) => sites.json,
             Task::Check(check) => check.json,
+            Task::CheckSites(check) => check.json,
             Task::Place(_) | Task::Order(_) | Task::Audit(_) | Task::Completions(_) => false,
         }
     }
@@ -477,6 +503,8 @@ pub struct Test<'a> {
     pub json: bool,
     /// What is to be told below the lines.
     pub why: Why<'a>,
+    /// The folder for pictures of what may be told.
+    pub dot: Option<&'a str>,
 }
 
 /// What is to be told below answers.
@@ -534,6 +562,8 @@ pub struct Order<'a> {
     pub fences: Vec<String>,
     /// Whether the execution is to be told below a yes.
     pub why: bool,
+    /// The folder for a picture of it.
+    pub dot: Option<&'a str>,
 }
 
 /// What `solve` was asked for.
@@ -549,8 +579,12 @@ pub struct Solve<'a> {
     pub certificate: Option<&'a str>,
     /// Whether JSON is to be printed.
     pub json: bool,
+    /// Whether the test is to be printed with the fences, in place of the answer.
+    pub write: bool,
     /// What is to be told below the answer.
     pub why: Why<'a>,
+    /// The folder for pictures of what may be told.
+    pub dot: Option<&'a str>,
 }
 
 /// What `solve --sites` was asked for.
@@ -560,6 +594,8 @@ pub struct Sites<'a> {
     pub prices: &'a str,
     /// How many nodes each plan may make: from 1 to 1,000,000.
     pub nodes: u32,
+    /// Where a certificate of the answer is to be written.
+    pub certificate: Option<&'a str>,
     /// Whether JSON is to be printed.
     pub json: bool,
 }
@@ -591,16 +627,28 @@ pub struct Check<'a> {
     pub json: bool,
     /// What is to be told below the answer.
     pub why: Why<'a>,
+    /// The folder for pictures of what may be told.
+    pub dot: Option<&'a str>,
+}
+
+/// What `check --sites` was asked for.
+#[derive(Drop)]
+pub struct CheckSites<'a> {
+    pub files: Vec<String>,
+    pub prices: &'a str,
+    pub certificate: &'a str,
+    /// Whether JSON is to be printed.
+    pub json: bool,
 }
 
 /// The request that the words make, the program's name first. An error holds the text for the user, and help and the
 /// version are such errors.
 ///
-/// `audit` takes its prices behind its files, also where an option stands between one file and them; so does `solve` with
-/// `--sites`.
+/// `audit` takes its prices behind its files, also where an option stands between one file and them; so do `solve` and
+/// `check` with `--sites`.
 pub fn read_request<'a>(alloc: Global, words: &'a [String]) -> Result<Request<'a>, Error> {
-    let solves_many = asks_for_sites(words);
-    let matches = match whole_command(alloc, true, solves_many)?.try_get_matches_from(words) {
+    let has_sites = asks_for_sites(words);
+    let matches = match whole_command(alloc, true, has_sites)?.try_get_matches_from(words) {
         Ok(matches) => matches,
         Err(error) => matches_of_one(alloc, words, error)?,
     };
@@ -654,6 +702,7 @@ fn task_of<'a>(alloc: Global, name: &str, found: &ArgMatches<'a>) -> Result<Task
         "solve" if found.get_flag("sites") => Ok(Task::Sites(sites_of(alloc, found)?)),
         "solve" => Ok(Task::Solve(solve_of(found))),
         "audit" => Ok(Task::Audit(audit_of(alloc, found)?)),
+        "check" if found.get_flag("sites") => Ok(Task::CheckSites(check_sites_of(alloc, found)?)),
         "check" => Ok(Task::Check(check_of(found))),
         "completions" => Ok(Task::Completions(shell_of(found))),
         _ => Ok(Task::Place(place_of(alloc, found)?)),
@@ -667,6 +716,7 @@ fn test_of<'a>(alloc: Global, found: &ArgMatches<'a>) -> Result<Test<'a>, AllocE
         jobs: found.get_one::<u8>("jobs").unwrap_or(ONE_WORKER),
         json: found.get_flag("json"),
         why: why_of(found),
+        dot: found.get_str("dot"),
     })
 }
 
@@ -746,6 +796,7 @@ fn order_of<'a>(alloc: Global, found: &ArgMatches<'a>) -> Result<Order<'a>, Allo
         witness: found.get_str("WITNESS").unwrap_or(""),
         fences: fences_of(alloc, found)?,
         why: found.get_flag("why"),
+        dot: found.get_str("dot"),
     })
 }
 
@@ -757,7 +808,9 @@ fn solve_of<'a>(found: &ArgMatches<'a>) -> Solve<'a> {
         nodes: found.get_one::<u32>("nodes").unwrap_or(MOST_NODES),
         certificate: found.get_str("cert"),
         json: found.get_flag("json"),
+        write: found.get_flag("write"),
         why: why_of(found),
+        dot: found.get_str("dot"),
     }
 }
 
@@ -766,6 +819,7 @@ fn sites_of<'a>(alloc: Global, found: &ArgMatches<'a>) -> Result<Sites<'a>, Allo
         files: words_of(alloc, found, "FILE")?,
         prices: found.get_str("PRICES").unwrap_or(""),
         nodes: found.get_one::<u32>("nodes").unwrap_or(MOST_NODES),
+        certificate: found.get_str("cert"),
         json: found.get_flag("json"),
     })
 }
@@ -789,7 +843,23 @@ fn check_of<'a>(found: &ArgMatches<'a>) -> Check<'a> {
         certificate: found.get_str("CERTIFICATE").unwrap_or(""),
         json: found.get_flag("json"),
         why: why_of(found),
+        dot: found.get_str("dot"),
     }
+}
+
+/// Behind its files stand its prices.
+fn check_sites_of<'a>(alloc: Global, found: &ArgMatches<'a>) -> Result<CheckSites<'a>, AllocError> {
+    let words = found.get_strs("FILE").unwrap_or(&[]);
+    let (prices, files) = match words.split_last() {
+        Some((prices, files)) => (*prices, files),
+        None => ("", words),
+    };
+    Ok(CheckSites {
+        files: copies_of(alloc, files)?,
+        prices,
+        certificate: found.get_str("CERTIFICATE").unwrap_or(""),
+        json: found.get_flag("json"),
+    })
 }
 
 fn shell_of(found: &ArgMatches<'_>) -> Shell {
@@ -806,11 +876,15 @@ fn fences_of(alloc: Global, found: &ArgMatches<'_>) -> Result<Vec<String>, Alloc
 
 /// The words of this argument.
 fn words_of(alloc: Global, found: &ArgMatches<'_>, name: &str) -> Result<Vec<String>, AllocError> {
-    let mut words = Vec::new(alloc);
-    for word in found.get_strs(name).unwrap_or(&[]) {
-        words.push(String::from_str(alloc, word)?)?;
+    copies_of(alloc, found.get_strs(name).unwrap_or(&[]))
+}
+
+fn copies_of(alloc: Global, words: &[&str]) -> Result<Vec<String>, AllocError> {
+    let mut copies = Vec::new(alloc);
+    for word in words {
+        copies.push(String::from_str(alloc, word)?)?;
     }
-    Ok(words)
+    Ok(copies)
 }
 
 // ---- the commands, and what each takes
@@ -875,6 +949,8 @@ enum Form {
     Words,
     /// One file, or any number where that is so taken.
     Files,
+    /// One file, or where many are taken any number, and prices behind them.
+    Checked,
     /// Any number of words.
     Fences,
     /// The name of a shell.
@@ -902,7 +978,7 @@ struct Parameter {
     help: &'static str,
 }
 
-const PARAMETERS: [Parameter; 38] = [
+const PARAMETERS: [Parameter; 44] = [
     Parameter {
         command: "test",
         name: "FILE",
@@ -937,6 +1013,13 @@ const PARAMETERS: [Parameter; 38] = [
         form: Form::Optional,
         value: "WHICH",
         help: TEST_WHY_HELP,
+    },
+    Parameter {
+        command: "test",
+        name: "dot",
+        form: Form::Option,
+        value: "FOLDER",
+        help: DOT_HELP,
     },
     Parameter {
         command: "solve",
@@ -993,6 +1076,20 @@ const PARAMETERS: [Parameter; 38] = [
         form: Form::Optional,
         value: "WHICH",
         help: WITHOUT_HELP,
+    },
+    Parameter {
+        command: "solve",
+        name: "write",
+        form: Form::Flag,
+        value: "",
+        help: SOLVE_WRITE_HELP,
+    },
+    Parameter {
+        command: "solve",
+        name: "dot",
+        form: Form::Option,
+        value: "FOLDER",
+        help: DOT_HELP,
     },
     Parameter {
         command: "audit",
@@ -1128,9 +1225,16 @@ const PARAMETERS: [Parameter; 38] = [
         help: ORDER_WHY_HELP,
     },
     Parameter {
+        command: "order",
+        name: "dot",
+        form: Form::Option,
+        value: "FOLDER",
+        help: ORDER_DOT_HELP,
+    },
+    Parameter {
         command: "check",
         name: "FILE",
-        form: Form::Word,
+        form: Form::Checked,
         value: "",
         help: FILE_HELP,
     },
@@ -1163,6 +1267,20 @@ const PARAMETERS: [Parameter; 38] = [
         help: WITHOUT_HELP,
     },
     Parameter {
+        command: "check",
+        name: "dot",
+        form: Form::Option,
+        value: "FOLDER",
+        help: DOT_HELP,
+    },
+    Parameter {
+        command: "check",
+        name: "sites",
+        form: Form::Flag,
+        value: "",
+        help: CHECK_SITES_HELP,
+    },
+    Parameter {
         command: "completions",
         name: "SHELL",
         form: Form::Shell,
@@ -1178,7 +1296,7 @@ struct Conflict {
     other: &'static str,
 }
 
-const CONFLICTS: [Conflict; 10] = [
+const CONFLICTS: [Conflict; 15] = [
     Conflict {
         command: "test",
         name: "why",
@@ -1197,11 +1315,26 @@ const CONFLICTS: [Conflict; 10] = [
     Conflict {
         command: "solve",
         name: "sites",
-        other: "cert",
+        other: "why",
     },
     Conflict {
         command: "solve",
         name: "sites",
+        other: "write",
+    },
+    Conflict {
+        command: "solve",
+        name: "sites",
+        other: "dot",
+    },
+    Conflict {
+        command: "solve",
+        name: "write",
+        other: "json",
+    },
+    Conflict {
+        command: "solve",
+        name: "write",
         other: "why",
     },
     Conflict {
@@ -1229,19 +1362,29 @@ const CONFLICTS: [Conflict; 10] = [
         name: "why",
         other: "json",
     },
+    Conflict {
+        command: "check",
+        name: "sites",
+        other: "why",
+    },
+    Conflict {
+        command: "check",
+        name: "sites",
+        other: "dot",
+    },
 ];
 
-/// The program; `audit` and `solve` each take one file or any number.
+/// The program; `audit`, and `solve` and `check`, each take one file or any number.
 fn whole_command<'a>(
     alloc: Global,
     audits_many: bool,
-    solves_many: bool,
+    has_sites: bool,
 ) -> Result<Command<'a>, AllocError> {
     let mut program = bare_program(alloc);
     for entry in &COMMANDS {
         let many = match entry.name {
             "audit" => audits_many,
-            "solve" => solves_many,
+            "solve" | "check" => has_sites,
             _ => true,
         };
         program = with_command(alloc, program, entry, many)?;
@@ -1272,11 +1415,16 @@ fn with_command<'a>(
 fn command_of<'a>(alloc: Global, entry: &Entry, many: bool) -> Result<Command<'a>, AllocError> {
     let mut command = bare_command(alloc, entry);
     for parameter in &PARAMETERS {
-        if parameter.command == entry.name {
+        if parameter.command == entry.name && !(many && is_among_files(parameter)) {
             command = with_argument(alloc, command, parameter, many)?;
         }
     }
     with_voice(alloc, command)
+}
+
+/// Does it stand among the files where many are taken? No more than one argument but the last takes many words.
+fn is_among_files(parameter: &Parameter) -> bool {
+    parameter.command == "check" && parameter.name == "PRICES"
 }
 
 /// The command without its arguments.
@@ -1323,6 +1471,7 @@ fn argument<'a>(alloc: Global, parameter: &Parameter, many: bool) -> Arg<'a> {
         Form::Word => required(alloc, name, help),
         Form::Words => files(alloc, help),
         Form::Files => one_or_many(alloc, many),
+        Form::Checked => one_or_priced(alloc, many),
         Form::Fences => Arg::new(alloc, name).help(help).num_args(0..),
         Form::Shell => required(alloc, name, help).value_parser(SHELLS),
         Form::Flag => flag(alloc, name, help),
@@ -1372,6 +1521,15 @@ fn flag<'a>(alloc: Global, name: &'a str, help: &'a str) -> Arg<'a> {
 fn one_or_many<'a>(alloc: Global, many: bool) -> Arg<'a> {
     if many {
         files(alloc, FILES_HELP)
+    } else {
+        required(alloc, "FILE", FILE_HELP)
+    }
+}
+
+/// One file; or two words or more, of which the last names prices.
+fn one_or_priced<'a>(alloc: Global, many: bool) -> Arg<'a> {
+    if many {
+        files(alloc, FILES_AND_PRICES_HELP).num_args(2..)
     } else {
         required(alloc, "FILE", FILE_HELP)
     }

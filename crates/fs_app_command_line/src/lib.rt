@@ -5,7 +5,7 @@ mod command;
 mod completions;
 
 pub use command::{
-    Audit, Check, Expectations, MOST_NODES, MOST_WORKERS, Order, Place, Request, Sites, Solve,
-    States, Task, Test, Why, completion_script, read_request,
+    Audit, Check, CheckSites, Expectations, MOST_NODES, MOST_WORKERS, Order, Place, Request, Sites,
+    Solve, States, Task, Test, Why, completion_script, read_request,
 };
 pub use completions::Shell;

@@ -17,5 +17,5 @@ pub use judging::{Judged, Wants, judge_files};
 pub use kinds::{Kinds, kind_by, kinds_of};
 pub use list_error::ListError;
 pub use names::test_name;
-pub use papers::{Noted, Paper, Papers, message_of_file};
+pub use papers::{Noted, Paper, Papers, message_of_file, note_of_file, note_or};
 pub use rows::{Row, read_rows};

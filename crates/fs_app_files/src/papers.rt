@@ -272,8 +272,9 @@ pub fn message_of_file(
     }
 }
 
-/// What that message says, for those who read JSON. The error is want of memory.
-pub(crate) fn note_of_file(
+/// What that message says, for those who read JSON. The error is want of memory. The cost is that of `locate_test` of
+/// fs_app_error_messages.
+pub fn note_of_file(
     alloc: Global,
     file: &Result<Vec<u8>, Missing>,
 ) -> Result<Option<Note>, AllocError> {
@@ -286,8 +287,8 @@ pub(crate) fn note_of_file(
     }
 }
 
-/// The note; or where there is none that of the fault, which is none of the form of a test.
-pub(crate) fn note_or(
+/// The note; or where there is none that of the fault, which is none of the form of a test. The error is want of memory.
+pub fn note_or(
     alloc: Global,
     note: Option<Note>,
     fault: Option<Fault>,

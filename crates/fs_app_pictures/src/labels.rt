@@ -88,7 +88,7 @@ fn write_also(locations: &[Location], known: Known, text: &mut String) -> Result
             text.push_str(", stores ")?;
             write_word(locations, word, text)
         }
-        None => text.push_str(", stores it"),
+        None => text.push_str(", stores to it"),
     }
 }
 

@@ -1,33 +1,65 @@
 -- Which fault is answered first.
-use Rattle.std.proofs.Common.{◌≡◌, ◌≢◌, inl, inr, ℕ, List, sym, ap, subst, ◌∙◌}
+use Rattle.std.proofs.Common.{◌≡◌, ◌≢◌, ◌<◌, inl, inr, ℕ, List, length, refl, sym, ap, subst, ◌∙◌}
 use Rattle.fs_kinds.specs.declared.fault.Fault.{Fault}
-use Rattle.fs_kinds.specs.declared.fault.Fault.TheVariants.{Memory}
+use Rattle.fs_kinds.specs.declared.fault.Fault.TheVariants.{Memory, NodeLimit}
 use Rattle.fs_kinds.specs.PriceTable.{PriceTable}
 use Rattle.fs_sites.specs.Answers.{IsSolveFault}
+use Rattle.fs_sites.specs.Questions.{Question}
 use Rattle.fs_app_place_order.proofs.Faults.{is_memory}
 use Rattle.fs_app_sites.specs.declared.content.File.{File}
-use Rattle.fs_app_sites.specs.Sites.{Content, AreContents, AreSitePrices, IsFilesFault, IsSitePricesFault, names_of, question_of}
+use Rattle.fs_app_sites.specs.Asked.{IsAsked, IsFirstAskedFault}
+use Rattle.fs_app_sites.specs.Asked as asked
+use Rattle.fs_app_sites.specs.Sites.{Content, AreContents, AreSitePrices, IsFilesFault, IsSitePricesFault, most_sites, names_of, question_of}
 use Rattle.fs_app_sites.specs.Solved.{IsFirstSitesFault, of_prices, of_files, of_search, of_memory}
 
 module _ (files : List File) (prices : List ℕ) where
+  -- ---- of the question
+
+  asked-memory : (f : Fault) → f ≡ Memory → IsFirstAskedFault files prices f
+  asked-memory f e = subst (IsFirstAskedFault files prices) (sym e) asked.of_memory
+
+  pub asked-prices : (f : Fault) → (f ≢ Memory → IsSitePricesFault prices f) → IsFirstAskedFault files prices f
+  asked-prices f h = elim (is_memory f) [ inl e ↦ asked-memory f e | inr n ↦ asked.of_prices (h n) ]
+
+  pub asked-files : (f : Fault) (table : PriceTable) → AreSitePrices prices table → (f ≢ Memory → IsFilesFault files f)
+      → IsFirstAskedFault files prices f
+  asked-files f table priced h = elim (is_memory f) [ inl e ↦ asked-memory f e | inr n ↦ asked.of_files table priced (h n) ]
+
+  asked-number : (f : Fault) (table : PriceTable) (contents : List Content) → AreSitePrices prices table → AreContents files contents
+      → (f ≡ NodeLimit) × (most_sites < length (names_of contents)) → IsFirstAskedFault files prices f
+  asked-number f table contents priced read many =
+      subst (IsFirstAskedFault files prices) (sym many.0) (asked.of_sites table contents priced read many.1)
+
+  -- the contents were passed on
+  pub asked-sites : (f : Fault) (table : PriceTable) (contents passed : List Content) → AreSitePrices prices table
+      → AreContents files contents → passed ≡ contents
+      → (f ≢ Memory → (f ≡ NodeLimit) × (most_sites < length (names_of passed))) → IsFirstAskedFault files prices f
+  asked-sites f table contents passed priced read same h =
+      elim (is_memory f) [
+        | inl e ↦ asked-memory f e
+        | inr n ↦ asked-number f table contents priced read
+            (subst (λ cs. (f ≡ NodeLimit) × (most_sites < length (names_of cs))) same (h n))
+      ]
+
+  -- ---- of the answer
+
   pub first-memory : (f : Fault) → f ≡ Memory → IsFirstSitesFault files prices f
   first-memory f e = subst (IsFirstSitesFault files prices) (sym e) of_memory
 
-  pub first-prices : (f : Fault) → (f ≢ Memory → IsSitePricesFault prices f) → IsFirstSitesFault files prices f
-  first-prices f h = elim (is_memory f) [ inl e ↦ first-memory f e | inr n ↦ of_prices (h n) ]
+  pub first-asked : (f : Fault) → IsFirstAskedFault files prices f → IsFirstSitesFault files prices f
+  first-asked f (asked.of_prices h) = of_prices h
+  first-asked f (asked.of_files table priced h) = of_files table priced h
+  first-asked f (asked.of_sites table contents priced read many) = of_search table contents priced read (inl refl)
+  first-asked f asked.of_memory = of_memory
 
-  pub first-files : (f : Fault) (table : PriceTable) → AreSitePrices prices table → (f ≢ Memory → IsFilesFault files f)
-      → IsFirstSitesFault files prices f
-  first-files f table priced h = elim (is_memory f) [ inl e ↦ first-memory f e | inr n ↦ of_files table priced (h n) ]
-
-  pub first-search : (f : Fault) (table : PriceTable) (contents first second : List Content) (names third : List (List ℕ))
-      → AreSitePrices prices table → AreContents files contents → first ≡ contents → names ≡ names_of first → second ≡ contents
-      → third ≡ names → (f ≢ Memory → IsSolveFault (question_of table third second).parts f) → IsFirstSitesFault files prices f
-  first-search f table contents first second names third priced read one named two three h =
+  pub first-search : (f : Fault) (q : Question) (names : List (List ℕ)) → IsAsked files prices q names
+      → (f ≢ Memory → IsSolveFault q.parts f) → IsFirstSitesFault files prices f
+  first-search f q names question h =
       elim (is_memory f) [
         | inl e ↦ first-memory f e
-        | inr n ↦ let are : third ≡ names_of contents = three ∙ (named ∙ ap names_of one) in
-            of_search table contents priced read
-            (subst (λ cs. IsSolveFault (question_of table (names_of contents) cs).parts f) two
-            (subst (λ ns. IsSolveFault (question_of table ns second).parts f) are (h n)))
+        | inr n ↦
+            let is : q ≡ question_of question.table (names_of question.contents) question.contents =
+            question.asks ∙ ap (λ ns. question_of question.table ns question.contents) question.named in
+            of_search question.table question.contents question.priced question.read
+            (subst (λ (asks : Question). IsSolveFault asks.parts f) is (h n))
       ]

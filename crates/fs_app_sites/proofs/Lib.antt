@@ -1,5 +1,6 @@
-pub mod Asked
+pub mod Combined
 pub mod Faults
 pub mod Offered
+pub mod Questions
 pub mod Reading
 pub mod Values

@@ -1,12 +1,14 @@
 -- What files hold, one after the other, and what is answered of it.
-use Rattle.std.proofs.Common.{◌≡◌, ◌<◌, ◌+◌, Bool, ℕ, List, [], ◌∷◌, ◌++◌, length, get_or, take, drop, inl, inr, sym, ap, subst, ◌∙◌}
+use Rattle.std.proofs.Common.{◌≡◌, ◌<◌, ◌+◌, Bool, ℕ, List, [], ◌∷◌, ◌++◌, length, get_or, take, drop, map, inl, inr, sym, ap, subst, ◌∙◌}
 use Rattle.std.proofs.lemmas.List.{drop_more, take_more}
 use Rattle.fs_kinds.specs.declared.fault.Fault.{Fault}
 use Rattle.fs_kinds.specs.PriceTable.{PriceTable}
 use Rattle.fs_app_io.specs.declared.status.Status.{Status}
 use Rattle.fs_sites.specs.Answers.{IsAnswer}
 use Rattle.fs_sites.specs.declared.answer.Answer.{Answer}
+use Rattle.fs_sites.specs.Questions.{Question}
 use Rattle.fs_app_sites.specs.declared.content.File.{File}
+use Rattle.fs_app_sites.specs.Asked.{IsAsked}
 use Rattle.fs_app_sites.specs.Printed.{answer_text, status_of}
 use Rattle.fs_app_sites.specs.Sites.{Content, AreContents, AreSitePrices, IsContent, IsFileFault, IsFilesFault, names_of, question_of}
 use Rattle.fs_app_sites.specs.Solved.{IsSolved}
@@ -37,24 +39,41 @@ module _ (files : List File) (i : ℕ) (file : File) (low : i < length files) (a
   pub own-fault : (f : Fault) → IsFileFault file.bytes.items f → IsFilesFault (drop i files) f
   own-fault f fault = subst (λ fs. IsFilesFault fs f) (sym left) (inl fault)
 
--- ---- the answer
+-- ---- the question
 
-module _ (is_json : Bool) (files : List File) (prices text : List ℕ) (status : Status) (table : PriceTable) (found : Answer) where
-  -- of what was read, which was passed on three times
-  pub solved : (contents first second : List Content) (names third fourth : List (List ℕ)) → AreContents files contents
-      → AreSitePrices prices table → first ≡ contents → names ≡ names_of first → second ≡ contents → third ≡ names → fourth ≡ names
-      → IsAnswer (question_of table third second) found → text ≡ answer_text is_json files fourth found → status ≡ status_of found
+module _ (files : List File) (prices : List ℕ) (q : Question) where
+  -- of what was read, which was passed on
+  pub is-asked : (names : List (List ℕ)) (contents passed : List Content) (table : PriceTable) → AreContents files contents → AreSitePrices prices table
+      → passed ≡ contents → names ≡ names_of passed → q ≡ question_of table names passed → IsAsked files prices q names
+  is-asked names contents passed table read priced same named asks = record {
+    contents = contents;
+    table = table;
+    read = read;
+    priced = priced;
+    named = named ∙ ap names_of same;
+    asks = asks ∙ ap (question_of table names) same;
+  }
+
+  -- ---- the answer
+
+  -- of the names as they were passed on
+  pub asked-again : {S : Type 0} (f : S → List ℕ) (first second : List S) → second ≡ first → IsAsked files prices q (map f first)
+      → IsAsked files prices q (map f second)
+  asked-again f first second same asked = subst (λ ns. IsAsked files prices q (map f ns)) (sym same) asked
+
+  pub is-solved : (names : List (List ℕ)) (is_json : Bool) (text : List ℕ) (status : Status) (found : Answer) → IsAsked files prices q names
+      → IsAnswer q found → text ≡ answer_text is_json files names found → status ≡ status_of found
       → IsSolved is_json files prices text status
-  solved contents first second names third fourth read priced one named two three four answer shown ends =
-      let are : names ≡ names_of contents = named ∙ ap names_of one in
+  is-solved names is_json text status found asked answer shown ends =
+      let is : q ≡ question_of asked.table (names_of asked.contents) asked.contents =
+      asked.asks ∙ ap (λ ns. question_of asked.table ns asked.contents) asked.named in
       record {
-        contents = contents;
-        table = table;
-        read = read;
-        priced = priced;
+        contents = asked.contents;
+        table = asked.table;
+        read = asked.read;
+        priced = asked.priced;
         found = found;
-        answer = subst (λ cs. IsAnswer (question_of table (names_of contents) cs) found) two
-            (subst (λ ns. IsAnswer (question_of table ns second) found) (three ∙ are) answer);
-        shown = shown ∙ ap (λ ns. answer_text is_json files ns found) (four ∙ are);
+        answer = subst (λ asks. IsAnswer asks found) is answer;
+        shown = shown ∙ ap (λ ns. answer_text is_json files ns found) asked.named;
         ends = ends;
       }

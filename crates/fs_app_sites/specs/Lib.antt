@@ -1,3 +1,4 @@
 pub mod Sites
+pub mod Asked
 pub mod Printed
 pub mod Solved

@@ -176,8 +176,8 @@ fn none_value(alloc: Global, name: &str, witness: &Witness) -> Result<Value, All
     json!(in alloc; {"answer": "none", "file": name, "witness": witness})
 }
 
-/// The object of the answer.
-fn value_of(
+/// The JSON object of the answer to a question of these files with sites of these names. The error is want of memory.
+pub fn answer_value(
     alloc: Global,
     files: &[File],
     names: &[String],
@@ -203,13 +203,13 @@ fn object_text(
     ensures { IfOk result (λ text. string_bytes text
         ≡ json_line (value_of files.now (map string_bytes names.now) answer.now)) }
 {
-    let value = value_of(alloc, files, names, answer)?;
+    let value = answer_value(alloc, files, names, answer)?;
     json_line(alloc, &value)
 }
 
 /// The answer in print, to a question of these files with sites of these names: its lines, or its object. The error is
 /// want of memory.
-pub(crate) fn answer_text(
+pub fn answer_text(
     alloc: Global,
     files: &[File],
     names: &[String],

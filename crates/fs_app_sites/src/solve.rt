@@ -1,20 +1,15 @@
 //! What `solve --sites` answers.
 
-ghost use Rattle.std.specs.Prelude.{◌≡◌, ◌≢◌, ◌≤◌, map, length, string_bytes, All, IfOk, IfErr};
-ghost use Rattle.fs_kinds.specs.declared.fault.Fault.TheVariants.{Memory, NodeLimit};
-ghost use Rattle.fs_kinds.specs.PriceTable.{IsPriceTable};
-ghost use Rattle.fs_sites.specs.Answers.{IsAnswer, IsSolveFault};
+ghost use Rattle.std.specs.Prelude.{◌≡◌, map, string_bytes, IfOk, IfErr};
+ghost use Rattle.fs_kinds.specs.declared.fault.Fault.TheVariants.{Memory};
 ghost use Rattle.fs_app_sites.specs.Printed.{answer_text, status_of};
-ghost use Rattle.fs_app_sites.specs.Sites.{AreContents, AreSitePrices, IsFilesFault, IsSound, names_of, question_of};
 ghost use Rattle.fs_app_sites.specs.Solved.{IsFirstSitesFault, IsSolved};
 
-use crate::content::{Content, File, read_content};
-use crate::names::names_of;
-use crate::prices::read_site_prices;
-use crate::question::{MOST_SITES, question_of};
+use crate::ask::read_question;
+use crate::content::File;
 use crate::report::answer_text;
 use fs_app_io::{Output, Status};
-use fs_kinds::{Fault, Prices};
+use fs_kinds::Fault;
 use fs_sites::Answer;
 use fs_sites_search::solve;
 use std::alloc::Global;
@@ -47,50 +42,10 @@ pub fn run_sites(
         (string_bytes solved.output.text) solved.output.status) }
     ensures fault { IfErr result (IsFirstSitesFault files.now prices.now) }
 {
-    let table = read_site_prices(alloc, prices)?;
-    let contents = read_contents(alloc, files)?;
-    let names = names_of(alloc, &contents)?;
-    let answer = answer_of(alloc, &contents, &names, &table, most_rounds, most_steps)?;
-    let output = output_of(alloc, files, &names, &answer, is_json)?;
-    Ok(Solved {
-        output,
-        sites: names.len(),
-    })
-}
-
-/// What the files hold.
-fn read_contents(alloc: Global, files: &[File]) -> Result<Vec<Content>, Fault>
-    ensures ok { IfOk result (λ contents. AreContents files.now contents.items) }
-    ensures sound { IfOk result (λ contents. All IsSound contents.items) }
-    ensures err { IfErr result (λ f. f ≢ Memory → IsFilesFault files.now f) }
-{
-    let mut contents = Vec::new(alloc);
-    for file in files {
-        contents.push(read_content(alloc, &file.bytes)?)?;
-    }
-    Ok(contents)
-}
-
-/// The answer to the question of files that hold this.
-fn answer_of(
-    alloc: Global,
-    contents: &[Content],
-    names: &[String],
-    prices: &Prices,
-    most_rounds: usize,
-    most_steps: usize,
-) -> Result<Answer, Fault>
-    requires { All IsSound contents.now }
-    ensures ok { IfOk result (IsAnswer (question_of prices.now (map string_bytes names.now) contents.now)) }
-    ensures err { IfErr result (λ f. f ≢ Memory
-        → IsSolveFault (question_of prices.now (map string_bytes names.now) contents.now).parts f) }
-{
-    if names.len() > MOST_SITES {
-        return Err(Fault::NodeLimit);
-    }
-    let question = question_of(alloc, contents, names, prices)?;
-    let answer = solve(alloc, &question, most_rounds, most_steps)?;
-    Ok(answer)
+    let asked = read_question(alloc, files, prices)?;
+    let names = asked.names.as_slice();
+    let answer = solve(alloc, &asked.question, most_rounds, most_steps)?;
+    solved_of(alloc, files, names, &answer, is_json)
 }
 
 /// The status that goes with an answer.
@@ -103,23 +58,27 @@ fn status_of(answer: &Answer) -> Status
     }
 }
 
-/// The answer in print.
-fn output_of(
+/// The answer in print to a question of these files with sites of these names: in lines, or as a JSON object. The error
+/// is F19.
+pub fn solved_of(
     alloc: Global,
     files: &[File],
     names: &[String],
     answer: &Answer,
     is_json: bool,
-) -> Result<Output, Fault>
-    ensures text { IfOk result (λ output. string_bytes output.text
+) -> Result<Solved, Fault>
+    ensures text { IfOk result (λ solved. string_bytes solved.output.text
         ≡ answer_text is_json files.now (map string_bytes names.now) answer.now) }
-    ensures status { IfOk result (λ output. output.status ≡ status_of answer.now) }
+    ensures status { IfOk result (λ solved. solved.output.status ≡ status_of answer.now) }
     ensures err { IfErr result (λ f. f ≡ Memory) }
 {
     let text = answer_text(alloc, files, names, answer, is_json)?;
-    Ok(Output {
-        text,
-        status: status_of(answer),
+    Ok(Solved {
+        output: Output {
+            text,
+            status: status_of(answer),
+        },
+        sites: names.len(),
     })
 }
 

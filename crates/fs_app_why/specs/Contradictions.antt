@@ -1,9 +1,9 @@
 -- Why a test's outcome is ruled out with its fences: the ends of a refutation as chains of operations, in print. Chains
 -- that are the same but for the harts are a kind, of which one is told.
-use Rattle.std.specs.Prelude.{ℕ, ◌+◌, ◌==◌, nat_le, nat_lt, ◌-◌, Bool, true, false, ◌&&◌, ◌||◌, not, Option, None, Some, List, [], ◌∷◌, ◌++◌}
+use Rattle.std.specs.Prelude.{ℕ, ◌+◌, ◌-◌, ◌==◌, nat_le, Bool, true, false, Option, None, Some, List, [], ◌∷◌, ◌++◌}
 use Rattle.std.specs.Prelude.{length, map, codes, if◌then◌else◌}
 use Rattle.std.specs.Fmt.{decimal}
-use Rattle.std.specs.List.{flat_map, list_any}
+use Rattle.std.specs.List.{flat_map}
 use Rattle.fs_instr.specs.declared.instr.Instr.{Instr}
 use Rattle.fs_kinds.specs.ReasonText.{operation_name}
 use Rattle.fs_model.specs.declared.test.Location.{Location}
@@ -17,15 +17,16 @@ use Rattle.fs_region_ends.specs.declared.chain.Chain.{Chain}
 use Rattle.fs_region_ends.specs.declared.chain.ChainLink.{ChainLink}
 use Rattle.fs_region_ends.specs.declared.chain.Shape.{Shape}
 use Rattle.fs_region_ends.specs.declared.chain.Shape.TheVariants as shape
-use Rattle.fs_region_ends.specs.declared.fences.Fence.{Fence}
 use Rattle.fs_region_ends.specs.declared.known.Known.{Known}
 use Rattle.fs_region_ends.specs.Kinds.{ChainKind, told_links}
-use Rattle.fs_app_why_kinds.specs.Arrows.{arrow_text, counts_before, counts_behind, if_amo}
+use Rattle.fs_app_why_kinds.specs.Arrows.{arrow_text}
 use Rattle.fs_app_why_kinds.specs.Counted.{rest_text}
 use Rattle.fs_app_why_kinds.specs.declared.told.Telling.{Telling}
 use Rattle.fs_app_why_kinds.specs.Told.{is_told, kind_at, told_chain}
 use Rattle.fs_app_why_kinds.specs.Words.{instr_named, line_of, text_of_instr}
+use Rattle.fs_app_why.specs.declared.signs.Sign.TheVariants as sign
 use Rattle.fs_app_why.specs.declared.table.Row.{Row}
+use Rattle.fs_app_why.specs.Signs.{some_told}
 use Rattle.fs_app_why.specs.Tables.{table_text}
 use Rattle.fs_app_why.specs.Words.{word_text}
 
@@ -37,7 +38,7 @@ is_text locations (Some word) = codes "=" ++ word_text locations word
 
 -- what an operation stores that loads, too
 abbrev pub also_text : List Location → Option ℕ → List ℕ
-also_text locations None = codes ", stores it"
+also_text locations None = codes ", stores to it"
 also_text locations (Some word) = codes ", stores " ++ word_text locations word
 
 abbrev pub initial_text : Bool → List ℕ
@@ -92,17 +93,6 @@ module _ (t : Test) (lines : List (List ℕ)) where
   abbrev pub chain_text : Chain → List ℕ
   chain_text chain = table_text (map link_row (told_links chain)) ++ end_text chain.shape (told_links chain)
 
--- ---- a fence of the chain orders an AMO by one of its halves
-
-abbrev pub halves_by : Test → ChainLink → Option Fence → Bool
-halves_by t link None = false
-halves_by t link (Some fence) =
-    not (length (if_amo (instr_named t link.name) (counts_before t fence)) == 0)
-    || not (length (if_amo (instr_named t link.next) (counts_behind t fence)) == 0)
-
-abbrev pub halves_amo : Test → Chain → Bool
-halves_amo t chain = list_any (λ link. halves_by t link link.fence) chain.links
-
 -- ---- kinds in print
 
 abbrev pub shape_text : Shape → List ℕ
@@ -114,7 +104,7 @@ shape_text shape.NotAtomic = codes "not atomic "
 abbrev pub others_text : ℕ → List ℕ
 others_text count =
     if nat_le count 1 then codes "\n"
-    else codes ", and " ++ (decimal (count - 1) ++ codes " like it with the harts changed\n")
+    else codes " (and " ++ (decimal (count - 1) ++ codes " more like it, with other harts)\n")
 
 module _ (t : Test) (lines : List (List ℕ)) where
   -- the chain, as that of this kind
@@ -137,36 +127,43 @@ module _ (t : Test) (lines : List (List ℕ)) where
   abbrev pub told_text : Telling → List ChainKind → List ℕ
   told_text telling kinds = flat_map (numbered_text telling kinds) (numbers_below (length kinds))
 
--- what is meant by an AMO that counts as a load, or as a store, where one does
-abbrev pub halves_there : Test → Option Chain → Bool
-halves_there t None = false
-halves_there t (Some chain) = halves_amo t chain
+-- ---- what stands above them: the heading, and what is meant where one that is told has it
 
-abbrev pub halves_told : Test → Telling → List ChainKind → ℕ → Bool
-halves_told t telling kinds number =
-    nat_lt number (length kinds)
-    && (is_told telling kinds number && halves_there t (told_chain telling (kind_at kinds number)))
+abbrev pub heading_of : ℕ → List ℕ
+heading_of count =
+    if count == 1 then codes "\nEach way to the outcome that its values leave open has this\ncontradiction."
+    else codes "\nEach way to the outcome that its values leave open has one of these\ncontradictions."
 
-abbrev pub amo_text : Test → Telling → List ChainKind → List ℕ
-amo_text t telling kinds =
-    if list_any (halves_told t telling kinds) (numbers_below (length kinds))
+abbrev pub cycle_text : Bool → List ℕ
+cycle_text is_told =
+    if is_told
+    then codes " In a cycle each operation comes to memory before the next one,\nand the last before the first.\n"
+    else codes "\n"
+
+abbrev pub unsaid_text : Bool → List ℕ
+unsaid_text is_told =
+    if is_told then codes "Where a value is left out it differs from way to way, or may do so.\n" else []
+
+abbrev pub amo_text : Bool → List ℕ
+amo_text is_told =
+    if is_told
     then codes "\nAn AMO is one operation that loads and stores at once: what orders either half orders all of it.\n"
     else []
 
+abbrev pub above_text : Test → Telling → List ChainKind → List ℕ
+above_text t telling kinds =
+    heading_of (length kinds)
+    ++ (cycle_text (some_told t telling kinds sign.Cycle)
+    ++ (unsaid_text (some_told t telling kinds sign.Unsaid)
+    ++ amo_text (some_told t telling kinds sign.Halves)))
+
 -- ---- all of it
 
+-- no values of the loads are left with which the outcome can be
 abbrev pub nothing_left : List ℕ
-nothing_left = codes "\nNo way to the outcome is left once its values are looked at: no order of memory is needed.\n"
-
--- the first line of the heading
-abbrev pub heading_of : ℕ → List ℕ
-heading_of count =
-    if count == 1 then codes "\nEach way to the outcome has this contradiction, in which each\n"
-    else codes "\nEach way to the outcome has one of these contradictions, in which each\n"
+nothing_left = codes "\nNo values that the loads can return lead to the outcome, whatever the order of memory.\n"
 
 abbrev pub contradictions_text : Test → (lines : List (List ℕ)) → Telling → List ChainKind → List ℕ
 contradictions_text t lines telling kinds =
     if length kinds == 0 then nothing_left
-    else heading_of (length kinds)
-    ++ (codes "operation is in memory before the next one, and the last before the first.\n"
-    ++ (told_text t lines telling kinds ++ (rest_text telling kinds ++ amo_text t telling kinds)))
+    else above_text t telling kinds ++ (told_text t lines telling kinds ++ rest_text telling kinds)

@@ -60,21 +60,14 @@ place_at lines told a = as_list (option_map (place_text lines) (name_at told a))
 abbrev pub places : List (List ℕ) → Told → List ℕ → List (List ℕ)
 places lines told numbers = flat_map (place_at lines told) numbers
 
-abbrev pub ending : ℕ → List ℕ
-ending count = if count == 1 then codes "s" else []
-
 -- nothing where there are none
 abbrev pub early_text : List (List ℕ) → List ℕ
 early_text pieces =
-    if length pieces == 0 then []
-    else codes "    ^   too early: "
-    ++ (and_joined pieces ++ (codes " come" ++ (ending (length pieces) ++ codes " later\n")))
+    if length pieces == 0 then [] else codes "    ^   overtakes " ++ (and_joined pieces ++ codes "\n")
 
 abbrev pub late_text : List (List ℕ) → List ℕ
 late_text pieces =
-    if length pieces == 0 then []
-    else codes "    ^   too late: "
-    ++ (and_joined pieces ++ (codes " come" ++ (ending (length pieces) ++ codes " before\n")))
+    if length pieces == 0 then [] else codes "    ^   overtaken by " ++ (and_joined pieces ++ codes "\n")
 
 abbrev pub mark_text : List (List ℕ) → Told → ℕ → List ℕ
 mark_text lines told a =
@@ -89,9 +82,13 @@ abbrev pub from_text : Option Name → List ℕ
 from_text None = codes " (initial)"
 from_text (Some name) = codes " from " ++ operation_name name
 
-abbrev pub source_text : Told → Option ℕ → List ℕ
-source_text told None = []
-source_text told (Some s) = from_text (name_at told s)
+-- a store comes to memory later than a load of its hart that returns from it
+abbrev pub buffered_text : (is_later : Bool) → List ℕ
+buffered_text is_later = if is_later then codes ", still in its store buffer" else []
+
+abbrev pub source_text : Told → (a : ℕ) → Option ℕ → List ℕ
+source_text told a None = []
+source_text told a (Some s) = from_text (name_at told s) ++ buffered_text (stands_before told.order a s)
 
 abbrev pub location_text : List Location → Option ℕ → List ℕ
 location_text locations None = []
@@ -112,7 +109,7 @@ does_at locations at source (Some word) (Some other) =
 
 abbrev pub does_text : List Location → Told → ℕ → List ℕ
 does_text locations told a =
-    does_at locations (location_text locations (operation_at told a).address) (source_text told (source_at told a))
+    does_at locations (location_text locations (operation_at told a).address) (source_text told a (source_at told a))
     (operation_at told a).loaded (operation_at told a).stored
 
 -- ---- rows

@@ -1,32 +1,27 @@
 //! Why an outcome is ruled out: the kinds of contradictions of a refutation, in print.
 
-ghost use Rattle.std.specs.Prelude.{◌≡◌, ◌≤◌, ◌<◌, ◌++◌, ◌==◌, codes, length, IfOk, map, if◌then◌else◌};
-ghost use Rattle.std.specs.Prelude.{false, string_bytes, true};
-ghost use Rattle.std.specs.List.{list_any};
+ghost use Rattle.std.specs.Prelude.{◌≡◌, ◌≤◌, ◌<◌, length, IfOk, map, false, string_bytes, true};
 ghost use Rattle.fs_kinds.specs.Limits.{most_locations};
-ghost use Rattle.fs_kinds.specs.ReasonText.{operation_name};
-ghost use Rattle.fs_model.specs.Numbers.{numbers_below};
 ghost use Rattle.fs_model.specs.Forms.{is_loading, is_storing};
-ghost use Rattle.fs_app_why_kinds.specs.Told.{told_chain};
-ghost use Rattle.fs_app_why_kinds.specs.Words.{instr_named, text_of_instr};
-ghost use Rattle.fs_app_why.specs.Contradictions.{again, also_text, amo_text, below_by, chain_text};
-ghost use Rattle.fs_app_why.specs.Contradictions.{contradictions_text, does_by, does_known, does_there, end_text};
-ghost use Rattle.fs_app_why.specs.Contradictions.{halves_amo, halves_by, halves_there, halves_told, headed};
-ghost use Rattle.fs_app_why.specs.Contradictions.{heading_of, initial_text, is_text, kind_text, link_row};
-ghost use Rattle.fs_app_why.specs.Contradictions.{loaded_text, numbered_text, others_text, shape_text, told_text};
+ghost use Rattle.fs_app_why_kinds.specs.Words.{text_of_instr};
+ghost use Rattle.fs_app_why.specs.Contradictions.{above_text, again, also_text, amo_text, below_by, chain_text};
+ghost use Rattle.fs_app_why.specs.Contradictions.{contradictions_text, cycle_text, does_by, does_known, does_there};
+ghost use Rattle.fs_app_why.specs.Contradictions.{end_text, headed, heading_of, initial_text, is_text, kind_text};
+ghost use Rattle.fs_app_why.specs.Contradictions.{link_row, loaded_text, numbered_text, others_text, shape_text};
+ghost use Rattle.fs_app_why.specs.Contradictions.{told_text, unsaid_text};
 
 use crate::rows::{line_cell, name_cell};
+use crate::signs::{Sign, some_told};
 use crate::table::{Row, table_text};
-use crate::words::word_text;
+use crate::words::{loads, stores, word_text};
 use fs_app_test::value_text;
 use fs_app_why_kinds::{
-    Telling, arrow_text, counts_before, counts_behind, if_amo, instr_named, instr_text, is_told,
-    rest_text, told_place,
+    Telling, arrow_text, instr_named, instr_text, is_told, rest_text, told_place,
 };
 use fs_instr::Instr;
 use fs_kinds::List;
 use fs_model::{Location, Name, Test};
-use fs_region_ends::{Arrow, Chain, ChainKind, ChainLink, Fence, Known, Shape, told_links};
+use fs_region_ends::{Arrow, Chain, ChainKind, ChainLink, Known, Shape, told_links};
 use std::alloc::{AllocError, Global};
 
 // ---- what an operation does, as far as all runs that are left agree
@@ -54,7 +49,7 @@ fn also_text(alloc: Global, locations: &[Location], word: Option<u32>) -> Result
             let word = word_text(alloc, locations, word)?;
             format!(in alloc; ", stores {}", word.as_str())
         }
-        None => format!(in alloc; ", stores it"),
+        None => format!(in alloc; ", stores to it"),
     }
 }
 
@@ -103,24 +98,6 @@ fn both_text(
     let loaded = loaded_text(alloc, locations, at, known)?;
     let stored = also_text(alloc, locations, known.stored)?;
     format!(in alloc; "{}{}", loaded.as_str(), stored.as_str())
-}
-
-fn loads(instr: &Instr) -> bool
-    ensures { result ≡ is_loading instr.now }
-{
-    matches!(
-        instr,
-        Instr::Lw { .. } | Instr::Lr { .. } | Instr::Amo { .. }
-    )
-}
-
-fn stores(instr: &Instr) -> bool
-    ensures { result ≡ is_storing instr.now }
-{
-    matches!(
-        instr,
-        Instr::Sw { .. } | Instr::Sc { .. } | Instr::Amo { .. }
-    )
 }
 
 fn does_there(
@@ -300,7 +277,7 @@ fn others_text(alloc: Global, count: usize) -> Result<String, AllocError>
         return format!(in alloc; "\n");
     }
     let others = count - 1;
-    format!(in alloc; ", and {} like it with the harts changed\n", others)
+    format!(in alloc; " (and {} more like it, with other harts)\n", others)
 }
 
 /// The chain below its number, as that of a kind with so many.
@@ -383,73 +360,67 @@ fn told_text(
     Ok(text)
 }
 
-// ---- what is said below them
+// ---- what stands above them
 
-fn halves_by(test: &Test, link: &ChainLink, fence: Option<Fence>) -> bool
-    ensures { result ≡ halves_by test.now link.now fence }
+fn heading_of(count: usize) -> &'static str
+    ensures { result.now ≡ heading_of count }
 {
-    match fence {
-        Some(fence) => {
-            !if_amo(instr_named(test, link.name), counts_before(test, fence)).is_empty()
-                || !if_amo(instr_named(test, link.next), counts_behind(test, fence)).is_empty()
-        }
-        None => false,
+    if count == 1 {
+        "\nEach way to the outcome that its values leave open has this\ncontradiction."
+    } else {
+        "\nEach way to the outcome that its values leave open has one of these\ncontradictions."
     }
 }
 
-/// Does a fence of the chain order an AMO by one of its halves?
-fn halves_amo(test: &Test, chain: &Chain) -> bool
-    ensures { result ≡ halves_amo test.now chain.now }
+/// What a cycle is, where one is told; the end of the line.
+fn cycle_text(is_told: bool) -> &'static str
+    ensures { result.now ≡ cycle_text is_told }
 {
-    chain
-        .links
-        .iter()
-        .any(|link| halves_by(test, link, link.fence))
-}
-
-/// Does it in the chain of the kind that is told?
-fn halves_there(test: &Test, telling: Telling, kind: &ChainKind) -> bool
-    ensures { result ≡ halves_there test.now (told_chain telling kind.now) }
-{
-    match kind.instances.get(told_place(telling, kind)) {
-        Some(chain) => halves_amo(test, chain),
-        None => false,
+    if is_told {
+        " In a cycle each operation comes to memory before the next one,\nand the last before the first.\n"
+    } else {
+        "\n"
     }
 }
 
-fn halves_told(test: &Test, telling: Telling, kinds: &[ChainKind], number: usize) -> bool
-    ensures { result ≡ halves_told test.now telling kinds.now number }
+/// What it means that a value is left out, where one is.
+fn unsaid_text(is_told: bool) -> &'static str
+    ensures { result.now ≡ unsaid_text is_told }
 {
-    number < kinds.len()
-        && (is_told(telling, kinds, number) && halves_there(test, telling, &kinds[number]))
-}
-
-fn some_halved(test: &Test, telling: Telling, kinds: &[ChainKind]) -> bool
-    ensures { result ≡ list_any (halves_told test.now telling kinds.now) (numbers_below (length kinds.now)) }
-{
-    (0..kinds.len()).any(|number| halves_told(test, telling, kinds, number))
+    if is_told {
+        "Where a value is left out it differs from way to way, or may do so.\n"
+    } else {
+        ""
+    }
 }
 
 /// What is meant by an AMO that counts as a load, or as a store, where one does.
-fn amo_text(test: &Test, telling: Telling, kinds: &[ChainKind]) -> &'static str
-    ensures { result.now ≡ amo_text test.now telling kinds.now }
+fn amo_text(is_told: bool) -> &'static str
+    ensures { result.now ≡ amo_text is_told }
 {
-    if some_halved(test, telling, kinds) {
+    if is_told {
         "\nAn AMO is one operation that loads and stores at once: what orders either half orders all of it.\n"
     } else {
         ""
     }
 }
 
-/// The first line of the heading.
-fn heading_of(count: usize) -> &'static str
-    ensures { result.now ≡ heading_of count }
+/// The heading, and what is meant by what stands below it.
+fn above_text(
+    alloc: Global,
+    test: &Test,
+    telling: Telling,
+    kinds: &[ChainKind],
+) -> Result<String, AllocError>
+    ensures { IfOk result (λ text. string_bytes text ≡ above_text test.now telling kinds.now) }
 {
-    if count == 1 {
-        "\nEach way to the outcome has this contradiction, in which each\n"
-    } else {
-        "\nEach way to the outcome has one of these contradictions, in which each\n"
-    }
+    format!(in alloc;
+        "{}{}{}{}",
+        heading_of(kinds.len()),
+        cycle_text(some_told(test, telling, kinds, Sign::Cycle)),
+        unsaid_text(some_told(test, telling, kinds, Sign::Unsaid)),
+        amo_text(some_told(test, telling, kinds, Sign::Halves))
+    )
 }
 
 /// The kinds of contradictions in print: those that are told, and how many there are besides. The square of the kinds,
@@ -467,16 +438,11 @@ pub(crate) fn contradictions_text(
 {
     if kinds.is_empty() {
         return format!(in alloc;
-            "\nNo way to the outcome is left once its values are looked at: no order of memory is needed.\n"
+            "\nNo values that the loads can return lead to the outcome, whatever the order of memory.\n"
         );
     }
+    let above = above_text(alloc, test, telling, kinds)?;
     let told = told_text(alloc, test, lines, telling, kinds)?;
     let rest = rest_text(alloc, telling, kinds)?;
-    format!(in alloc;
-        "{}operation is in memory before the next one, and the last before the first.\n{}{}{}",
-        heading_of(kinds.len()),
-        told.as_str(),
-        rest.as_str(),
-        amo_text(test, telling, kinds)
-    )
+    format!(in alloc; "{}{}{}", above.as_str(), told.as_str(), rest.as_str())
 }

@@ -12,6 +12,7 @@ mod order;
 mod possible;
 mod rows;
 mod ruled_out;
+mod signs;
 mod table;
 mod trace;
 mod without;

@@ -1,10 +1,9 @@
 //! Operations that come to memory before an earlier one of their hart.
 
-ghost use Rattle.std.specs.Prelude.{◌≡◌, ◌==◌, ◌++◌, [], codes, count_by, length, if◌then◌else◌, IfOk};
-ghost use Rattle.std.specs.Prelude.{OnOk, string_bytes};
+ghost use Rattle.std.specs.Prelude.{◌≡◌, ◌++◌, count_by, IfOk, OnOk, string_bytes};
 ghost use Rattle.std.specs.List.{list_any};
 ghost use Rattle.fs_app_why.specs.Traces.{overtakes, passed, passing, is_early, is_late, marks_early, places};
-ghost use Rattle.fs_app_why.specs.Traces.{place_at, ending, early_text, late_text, mark_text};
+ghost use Rattle.fs_app_why.specs.Traces.{place_at, early_text, late_text, mark_text};
 ghost use Rattle.fs_app_why_told.specs.Executions.{operation_at};
 ghost use Rattle.fs_model.specs.Numbers.{is_same};
 
@@ -147,13 +146,7 @@ fn places(
     Ok(pieces)
 }
 
-fn ending(count: usize) -> &'static str
-    ensures { result.now ≡ ending count }
-{
-    if count == 1 { "s" } else { "" }
-}
-
-/// The line below one that these are too late for.
+/// The line below one that overtakes these.
 fn early_text(alloc: Global, pieces: &[Name]) -> Result<String, AllocError>
     ensures { IfOk result (λ text. string_bytes text ≡ early_text pieces.now) }
 {
@@ -161,15 +154,10 @@ fn early_text(alloc: Global, pieces: &[Name]) -> Result<String, AllocError>
         return Ok(String::new(alloc));
     }
     let those = and_joined(alloc, pieces)?;
-    let ending = ending(pieces.len());
-    format!(in alloc;
-        "    ^   too early: {} come{} later\n",
-        those.as_str(),
-        ending
-    )
+    format!(in alloc; "    ^   overtakes {}\n", those.as_str())
 }
 
-/// The line below one that these have come before.
+/// The line below one that these overtake.
 fn late_text(alloc: Global, pieces: &[Name]) -> Result<String, AllocError>
     ensures { IfOk result (λ text. string_bytes text ≡ late_text pieces.now) }
 {
@@ -177,12 +165,7 @@ fn late_text(alloc: Global, pieces: &[Name]) -> Result<String, AllocError>
         return Ok(String::new(alloc));
     }
     let those = and_joined(alloc, pieces)?;
-    let ending = ending(pieces.len());
-    format!(in alloc;
-        "    ^   too late: {} come{} before\n",
-        those.as_str(),
-        ending
-    )
+    format!(in alloc; "    ^   overtaken by {}\n", those.as_str())
 }
 
 /// The line below it where it overtakes others.

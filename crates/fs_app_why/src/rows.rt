@@ -5,9 +5,10 @@ ghost use Rattle.std.specs.Prelude.{string_bytes};
 ghost use Rattle.fs_instr.specs.Writing.{instr_text};
 ghost use Rattle.fs_kinds.specs.Limits.{most_locations};
 ghost use Rattle.fs_kinds.specs.ReasonText.{operation_name};
-ghost use Rattle.fs_app_why.specs.Traces.{from_text, source_text, location_text, does_at, does_text, row_named, row_of};
-ghost use Rattle.fs_app_why.specs.Traces.{rows, stores_text};
+ghost use Rattle.fs_app_why.specs.Traces.{buffered_text, does_at, does_text, from_text, location_text, row_named};
+ghost use Rattle.fs_app_why.specs.Traces.{row_of, rows, source_text, stores_text};
 ghost use Rattle.fs_app_why_kinds.specs.Words.{line_of};
+ghost use Rattle.fs_model.specs.Numbers.{stands_before};
 
 use crate::marks::mark_text;
 use crate::table::Row;
@@ -17,7 +18,7 @@ use fs_app_why_kinds::line_of;
 use fs_app_why_told::Told;
 use fs_instr::{Instr, write_instr};
 use fs_kinds::{List, OperationName};
-use fs_model::{Location, Name, Test};
+use fs_model::{Location, Name, Test, stands_before};
 use std::alloc::{AllocError, Global};
 
 /// From which store a load returns.
@@ -30,12 +31,38 @@ fn from_text(alloc: Global, name: Option<OperationName>) -> Result<String, Alloc
     }
 }
 
-/// The same by the store's number, if there is one.
-fn source_text(alloc: Global, told: &Told, source: Option<u8>) -> Result<String, AllocError>
-    ensures { IfOk result (λ text. string_bytes text ≡ source_text told.now source) }
+fn buffered_text(is_later: bool) -> &'static str
+    ensures { result.now ≡ buffered_text is_later }
+{
+    if is_later {
+        ", still in its store buffer"
+    } else {
+        ""
+    }
+}
+
+/// Does the operation come to memory before this one? Linear in the operations.
+fn is_later(told: &Told, a: u8, source: u8) -> bool
+    ensures { result ≡ stands_before told.now.order a source }
+{
+    stands_before(told.order.as_slice(), usize::from(a), usize::from(source))
+}
+
+/// From which store the operation returns, by the store's number, and whether it does so from a store buffer.
+fn stored_by(alloc: Global, told: &Told, a: u8, source: u8) -> Result<String, AllocError>
+    ensures { IfOk result (λ text. string_bytes text ≡ source_text told.now a (Some source)) }
+{
+    let from = from_text(alloc, told.name(source))?;
+    let buffered = buffered_text(is_later(told, a, source));
+    format!(in alloc; "{}{}", from.as_str(), buffered)
+}
+
+/// The same, if there is such a store.
+fn source_text(alloc: Global, told: &Told, a: u8, source: Option<u8>) -> Result<String, AllocError>
+    ensures { IfOk result (λ text. string_bytes text ≡ source_text told.now a source) }
 {
     match source {
-        Some(source) => from_text(alloc, told.name(source)),
+        Some(source) => stored_by(alloc, told, a, source),
         None => Ok(String::new(alloc)),
     }
 }
@@ -139,7 +166,7 @@ fn does_text(
 {
     let operation = told.operation(a);
     let at = location_text(alloc, locations, operation.address)?;
-    let source = source_text(alloc, told, told.source(a))?;
+    let source = source_text(alloc, told, a, told.source(a))?;
     let words = (operation.loaded, operation.stored);
     does_at(alloc, locations, at.as_str(), source.as_str(), words)
 }

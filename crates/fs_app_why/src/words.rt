@@ -2,10 +2,12 @@
 
 ghost use Rattle.std.specs.Prelude.{◌≡◌, ◌≤◌, [], codes, length, if◌then◌else◌, IfOk, string_bytes};
 ghost use Rattle.fs_kinds.specs.Limits.{most_locations};
+ghost use Rattle.fs_model.specs.Forms.{is_loading, is_storing};
 ghost use Rattle.fs_app_why.specs.Words.{is_address, word_text, place_text};
 
 use fs_app_test::value_text;
 use fs_app_why_kinds::line_of;
+use fs_instr::Instr;
 use fs_kinds::{List, OperationName};
 use fs_model::Location;
 use std::alloc::{AllocError, Global};
@@ -37,6 +39,26 @@ pub(crate) fn word_text(
     let value = value_text(alloc, locations, word)?;
     let sign = sign(is_address(locations, word));
     format!(in alloc; "{}{}", sign, value.as_str())
+}
+
+/// Does the instruction load?
+pub(crate) fn loads(instr: &Instr) -> bool
+    ensures { result ≡ is_loading instr.now }
+{
+    matches!(
+        instr,
+        Instr::Lw { .. } | Instr::Lr { .. } | Instr::Amo { .. }
+    )
+}
+
+/// Does it store?
+pub(crate) fn stores(instr: &Instr) -> bool
+    ensures { result ≡ is_storing instr.now }
+{
+    matches!(
+        instr,
+        Instr::Sw { .. } | Instr::Sc { .. } | Instr::Amo { .. }
+    )
 }
 
 /// The operation with its line, as `P0:1 (line 14)`.

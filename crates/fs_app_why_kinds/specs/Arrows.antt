@@ -106,7 +106,7 @@ because_text t lines cause fence a b = cause_text cause a b
 abbrev pub arrow_text : Test → (lines : List (List ℕ)) → Arrow → Option Fence → (a b : Name) → List ℕ
 arrow_text t lines (Because cause) fence a b = because_text t lines cause fence a b
 arrow_text t lines Forgotten fence a b =
-    operation_name b ++ codes " stands behind it in the code, and reads what it overwrites (load values)"
+    operation_name b ++ codes " comes after it in the code, and yet reads an older store (load values)"
 arrow_text t lines (Pair load) fence a b =
     codes "but no store of another hart may come between it and what " ++ (operation_name load ++ codes " reads (atomicity)")
 arrow_text t lines End fence a b = []

@@ -71,9 +71,14 @@ no_kind = record { instances = []; ends = 0 }
 abbrev pub kind_at : List ChainKind → ℕ → ChainKind
 kind_at kinds number = slice_index_or kinds number no_kind
 
+-- it is one of the first, and none has a fence
+abbrev pub is_first_bare : List ChainKind → ℕ → Bool
+is_first_bare kinds number = nat_lt number few_kinds && not (list_any has_fence kinds)
+
 abbrev pub is_told_by : Telling → List ChainKind → ℕ → Bool
 is_told_by Few kinds number =
-    nat_le (length kinds) few_kinds || is_new_after (take number kinds) (kind_at kinds number)
+    nat_le (length kinds) few_kinds
+    || (is_new_after (take number kinds) (kind_at kinds number) || is_first_bare kinds number)
 is_told_by All kinds number = true
 is_told_by (One hart at) kinds number = list_any (has_there hart at) (kind_at kinds number).instances
 

@@ -249,7 +249,7 @@ pub fn arrow_text(
     match arrow {
         Arrow::Because(cause) => because_text(alloc, test, lines, cause, fence, names),
         Arrow::Forgotten => format!(in alloc;
-            "{} stands behind it in the code, and reads what it overwrites (load values)",
+            "{} comes after it in the code, and yet reads an older store (load values)",
             names.1
         ),
         Arrow::Pair(load) => format!(in alloc;

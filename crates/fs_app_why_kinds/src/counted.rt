@@ -1,13 +1,14 @@
 //! How many kinds aren't told, and in which a fence is needed.
 
-ghost use Rattle.std.specs.Prelude.{◌≡◌, ◌<◌, ◌==◌, ◌++◌, codes, count_by, length, if◌then◌else◌, IfOk, OnOk};
-ghost use Rattle.std.specs.Prelude.{string_bytes};
+ghost use Rattle.std.specs.Prelude.{◌≡◌, ◌++◌, count_by, length, IfOk, OnOk, string_bytes};
 ghost use Rattle.fs_model.specs.Numbers.{numbers_below};
-ghost use Rattle.fs_app_why_kinds.specs.Counted.{bare_text, count_more, cycles_piece, in_text, is_bare, is_more};
-ghost use Rattle.fs_app_why_kinds.specs.Counted.{is_sole, is_sole_in, is_untold, joined_pieces, kinds_text, more_piece};
-ghost use Rattle.fs_app_why_kinds.specs.Counted.{number_if, numbers_with, rest_text};
+ghost use Rattle.fs_app_why_kinds.specs.Counted.{all_bare_text, bare_text, count_more, cycles_piece, cycles_word};
+ghost use Rattle.fs_app_why_kinds.specs.Counted.{in_text, is_bare, is_counted, is_more, is_needed, is_sole, is_sole_in};
+ghost use Rattle.fs_app_why_kinds.specs.Counted.{is_sole_there, is_untold, joined_pieces, kinds_text, more_piece};
+ghost use Rattle.fs_app_why_kinds.specs.Counted.{number_if, numbers_with, rest_by, rest_text, verb_text};
+ghost use Rattle.fs_app_why_kinds.specs.Told.{told_chain};
 
-use crate::told::{Telling, has_fence, is_key, is_told};
+use crate::told::{Telling, has_fence, is_key, is_told, told_place};
 use crate::words::and_joined;
 use fs_model::Name;
 use fs_region_ends::{Chain, ChainKind};
@@ -45,19 +46,59 @@ fn kinds_text(alloc: Global, count: usize) -> Result<String, AllocError>
     ensures { IfOk result (λ text. string_bytes text ≡ kinds_text count) }
 {
     if count == 1 {
-        format!(in alloc; "{} kind more", count)
+        format!(in alloc; "{} more kind", count)
     } else {
-        format!(in alloc; "{} kinds more", count)
+        format!(in alloc; "{} more kinds", count)
     }
 }
 
-fn bare_text(alloc: Global, count: usize) -> Result<String, AllocError>
-    ensures { IfOk result (λ text. string_bytes text ≡ bare_text count) }
+fn verb_text(untold: usize) -> &'static str
+    ensures { result.now ≡ verb_text untold }
 {
-    if count == 0 {
+    if untold == 1 {
+        " isn't told"
+    } else {
+        " aren't told"
+    }
+}
+
+/// That all of them are without a fence, where they are.
+fn all_bare_text(untold: usize, bare: usize) -> &'static str
+    ensures { result.now ≡ all_bare_text untold bare }
+{
+    if bare == untold {
+        " without a fence"
+    } else {
+        ""
+    }
+}
+
+/// How many of them are, where some are, and not all.
+fn bare_text(alloc: Global, untold: usize, bare: usize) -> Result<String, AllocError>
+    ensures { IfOk result (λ text. string_bytes text ≡ bare_text untold bare) }
+{
+    if bare == 0 || bare == untold {
         return Ok(String::new(alloc));
     }
-    format!(in alloc; ", {} of them without a fence", count)
+    format!(in alloc; ", {} of them without a fence", bare)
+}
+
+/// The line of so many kinds, of which so many are without a fence.
+fn rest_by(alloc: Global, untold: usize, bare: usize) -> Result<String, AllocError>
+    ensures { IfOk result (λ text. string_bytes text ≡ rest_by untold bare) }
+{
+    if untold == 0 {
+        return Ok(String::new(alloc));
+    }
+    let kinds = kinds_text(alloc, untold)?;
+    let some = bare_text(alloc, untold, bare)?;
+    format!(in alloc;
+        "\n{}{}{}{}: --why=all\n",
+        kinds.as_str(),
+        all_bare_text(untold, bare),
+        verb_text(untold),
+        some.as_str()
+    )
 }
 
 /// The line of the kinds that aren't told, if there are any. The square of the kinds, times that of the fences in each.
@@ -65,13 +106,11 @@ fn bare_text(alloc: Global, count: usize) -> Result<String, AllocError>
 pub fn rest_text(alloc: Global, telling: Telling, kinds: &[ChainKind]) -> Result<String, AllocError>
     ensures { IfOk result (λ text. string_bytes text ≡ rest_text telling kinds.now) }
 {
-    let untold = count_untold(telling, kinds);
-    if untold == 0 {
-        return Ok(String::new(alloc));
-    }
-    let more = kinds_text(alloc, untold)?;
-    let bare = bare_text(alloc, count_bare(telling, kinds))?;
-    format!(in alloc; "\nand {}{}: --why=all\n", more.as_str(), bare.as_str())
+    rest_by(
+        alloc,
+        count_untold(telling, kinds),
+        count_bare(telling, kinds),
+    )
 }
 
 // ---- in which of them a fence is needed
@@ -89,37 +128,68 @@ fn is_sole(kind: &ChainKind, key: u32) -> bool
     kind.instances.iter().any(|chain| is_sole_in(chain, key))
 }
 
-/// Appends the number of the kind, if it is told and the fence is needed there.
+/// Does it in the chain of the kind that is told?
+fn is_sole_there(telling: Telling, kind: &ChainKind, key: u32) -> bool
+    ensures { result ≡ is_sole_there key (told_chain telling kind.now) }
+{
+    match kind.instances.get(told_place(telling, kind)) {
+        Some(chain) => is_sole_in(chain, key),
+        None => false,
+    }
+}
+
+/// Does it there, or only in others of the kind?
+fn is_needed(telling: Telling, kind: &ChainKind, key: u32, in_told: bool) -> bool
+    ensures { result ≡ is_needed telling key in_told kind.now }
+{
+    if in_told {
+        is_sole_there(telling, kind, key)
+    } else {
+        !is_sole_there(telling, kind, key) && is_sole(kind, key)
+    }
+}
+
+/// Is the kind of this number told, and the fence needed there?
+fn is_counted(telling: Telling, kinds: &[ChainKind], key: u32, in_told: bool, number: usize) -> bool
+    ensures { result ≡ is_counted telling kinds.now key in_told number }
+{
+    number < kinds.len()
+        && (is_told(telling, kinds, number) && is_needed(telling, &kinds[number], key, in_told))
+}
+
+/// Appends the number, if it counts.
 fn push_number(
     alloc: Global,
-    telling: Telling,
-    kinds: &[ChainKind],
-    key: u32,
+    is_counted: bool,
     number: usize,
     numbers: &mut Vec<Name>,
 ) -> Result<(), AllocError>
-    requires { number < length kinds.now }
-    ensures { OnOk result (numbers.new.items ≡ numbers.old.items ++ number_if telling kinds.now key number) }
+    ensures { OnOk result (numbers.new.items ≡ numbers.old.items ++ number_if is_counted number) }
 {
-    if is_told(telling, kinds, number) && is_sole(&kinds[number], key) {
-        let told = number + 1;
-        numbers.push(Name::new(format!(in alloc; "{}", told)?))?;
+    if is_counted {
+        numbers.push(Name::new(format!(in alloc; "{}", number)?))?;
     }
     Ok(())
 }
 
-/// The numbers of the kinds that are told in which the fence is needed.
+/// The numbers of the kinds that are told in which the fence is needed: in the chain that is told, or only in others.
 fn numbers_with(
     alloc: Global,
     telling: Telling,
     kinds: &[ChainKind],
     key: u32,
+    in_told: bool,
 ) -> Result<Vec<Name>, AllocError>
-    ensures { IfOk result (λ numbers. numbers.items ≡ numbers_with telling kinds.now key) }
+    ensures { IfOk result (λ numbers. numbers.items ≡ numbers_with telling kinds.now key in_told) }
 {
     let mut numbers = Vec::new(alloc);
     for number in 0..kinds.len() {
-        push_number(alloc, telling, kinds, key, number, &mut numbers)?;
+        push_number(
+            alloc,
+            is_counted(telling, kinds, key, in_told, number),
+            number + 1,
+            &mut numbers,
+        )?;
     }
     Ok(numbers)
 }
@@ -139,32 +209,37 @@ fn count_more(telling: Telling, kinds: &[ChainKind], key: u32) -> usize
         .count()
 }
 
-fn cycles_word(count: usize) -> &'static str
-    ensures { result.now ≡ (if count == 1 then codes "cycle " else codes "cycles ") }
+fn cycles_word(in_told: bool, count: usize) -> &'static str
+    ensures { result.now ≡ cycles_word in_told count }
 {
-    if count == 1 { "cycle " } else { "cycles " }
+    if in_told {
+        if count == 1 {
+            "in cycle "
+        } else {
+            "in cycles "
+        }
+    } else if count == 1 {
+        "in one like cycle "
+    } else {
+        "in ones like cycles "
+    }
 }
 
-fn push_cycles(alloc: Global, numbers: &[Name], pieces: &mut Vec<Name>) -> Result<(), AllocError>
-    ensures { OnOk result (pieces.new.items ≡ pieces.old.items ++ cycles_piece numbers.now) }
+fn push_cycles(
+    alloc: Global,
+    in_told: bool,
+    numbers: &[Name],
+    pieces: &mut Vec<Name>,
+) -> Result<(), AllocError>
+    ensures { OnOk result (pieces.new.items ≡ pieces.old.items ++ cycles_piece in_told numbers.now) }
 {
     if numbers.is_empty() {
         return Ok(());
     }
     let joined = and_joined(alloc, numbers)?;
-    let word = cycles_word(numbers.len());
+    let word = cycles_word(in_told, numbers.len());
     pieces.push(Name::new(format!(in alloc; "{}{}", word, joined.as_str())?))?;
     Ok(())
-}
-
-fn more_word(count: usize) -> &'static str
-    ensures { result.now ≡ (if count == 1 then codes " more kind" else codes " more kinds") }
-{
-    if count == 1 {
-        " more kind"
-    } else {
-        " more kinds"
-    }
 }
 
 fn push_more(alloc: Global, count: usize, pieces: &mut Vec<Name>) -> Result<(), AllocError>
@@ -173,7 +248,8 @@ fn push_more(alloc: Global, count: usize, pieces: &mut Vec<Name>) -> Result<(), 
     if count == 0 {
         return Ok(());
     }
-    pieces.push(Name::new(format!(in alloc; "{}{}", count, more_word(count))?))?;
+    let kinds = kinds_text(alloc, count)?;
+    pieces.push(Name::new(format!(in alloc; "in {}", kinds.as_str())?))?;
     Ok(())
 }
 
@@ -184,11 +260,12 @@ fn joined_pieces(alloc: Global, pieces: &[Name]) -> Result<String, AllocError>
         return Ok(String::new(alloc));
     }
     let joined = and_joined(alloc, pieces)?;
-    format!(in alloc; ": in {}", joined.as_str())
+    format!(in alloc; ": {}", joined.as_str())
 }
 
-/// In which of the kinds the fence of this number is needed: the numbers of those that are told, and how many others.
-/// The cost is that of `rest_text`; the error is want of memory.
+/// In which of the kinds the fence of this number is needed: the numbers of those that need it in the chain that is
+/// told, and of those that do only in others, and how many that aren't told. The cost is that of `rest_text`; the error
+/// is want of memory.
 pub fn in_text(
     alloc: Global,
     telling: Telling,
@@ -197,9 +274,11 @@ pub fn in_text(
 ) -> Result<String, AllocError>
     ensures { IfOk result (λ text. string_bytes text ≡ in_text telling kinds.now key) }
 {
-    let numbers = numbers_with(alloc, telling, kinds, key)?;
+    let told = numbers_with(alloc, telling, kinds, key, true)?;
+    let others = numbers_with(alloc, telling, kinds, key, false)?;
     let mut pieces = Vec::new(alloc);
-    push_cycles(alloc, &numbers, &mut pieces)?;
+    push_cycles(alloc, true, &told, &mut pieces)?;
+    push_cycles(alloc, false, &others, &mut pieces)?;
     push_more(alloc, count_more(telling, kinds, key), &mut pieces)?;
     joined_pieces(alloc, &pieces)
 }

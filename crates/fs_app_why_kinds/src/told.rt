@@ -3,16 +3,16 @@
 ghost use Rattle.std.specs.Prelude.{◌≡◌, ◌<◌, Some, length, option_map};
 ghost use Rattle.std.specs.List.{list_any, position};
 ghost use Rattle.fs_model.specs.Numbers.{is_same};
-ghost use Rattle.fs_app_why_kinds.specs.Told.{fence_key, has_fence, has_key, has_new, has_there, is_key_among};
-ghost use Rattle.fs_app_why_kinds.specs.Told.{is_new_after, is_new_by, is_there, is_told, is_told_by, kind_at};
-ghost use Rattle.fs_app_why_kinds.specs.Told.{least_chains, links_there, stands_there, told_place};
+ghost use Rattle.fs_app_why_kinds.specs.Told.{fence_key, has_fence, has_key, has_new, has_there, is_first_bare};
+ghost use Rattle.fs_app_why_kinds.specs.Told.{is_key_among, is_new_after, is_new_by, is_there, is_told, is_told_by};
+ghost use Rattle.fs_app_why_kinds.specs.Told.{kind_at, least_chains, links_there, stands_there, told_place};
 
 use fs_region_ends::{Chain, ChainKind, ChainLink, Fence};
 
 /// Which kinds of contradictions are told.
 #[derive(Clone, Copy)]
 pub enum Telling {
-    /// All where they are few, else those with a fence that none before them has.
+    /// All where they are few, else those with a fence that none before them has, or the first where none has one.
     Few,
     /// All.
     All,
@@ -20,7 +20,7 @@ pub enum Telling {
     One { hart: u8, at: u8 },
 }
 
-/// Up to so many kinds are all told.
+/// Up to so many kinds are all told, and as many where none has a fence.
 const FEW_KINDS: usize = 6;
 
 /// A number for the fence: its hart's, its place, and whether it is placed or written there.
@@ -145,13 +145,27 @@ fn tells_there(kind: &ChainKind, hart: u8, at: u8) -> bool
         .any(|chain| has_there(chain, hart, at))
 }
 
+fn some_fenced(kinds: &[ChainKind]) -> bool
+    ensures { result ≡ list_any has_fence kinds.now }
+{
+    kinds.iter().any(|kind| has_fence(kind))
+}
+
+/// Is it one of the first, and has none a fence?
+fn is_first_bare(kinds: &[ChainKind], number: usize) -> bool
+    ensures { result ≡ is_first_bare kinds.now number }
+{
+    number < FEW_KINDS && !some_fenced(kinds)
+}
+
 fn is_told_by(telling: Telling, kinds: &[ChainKind], number: usize) -> bool
     requires { number < length kinds.now }
     ensures { result ≡ is_told_by telling kinds.now number }
 {
     match telling {
         Telling::Few => {
-            kinds.len() <= FEW_KINDS || is_new_after(&kinds[..number], &kinds[number])
+            kinds.len() <= FEW_KINDS
+                || (is_new_after(&kinds[..number], &kinds[number]) || is_first_bare(kinds, number))
         }
         Telling::All => true,
         Telling::One { hart, at } => tells_there(&kinds[number], hart, at),

@@ -3,4 +3,4 @@
 
 mod rounds;
 
-pub use rounds::{refutations, solve, solve_broken};
+pub use rounds::{bar_by, fenced, refutations, solve, solve_broken};

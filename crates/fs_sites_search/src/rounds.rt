@@ -132,8 +132,9 @@ fn allowing_top(
     allowing(alloc, parts, judges, 0, &top)
 }
 
-/// The bar of the execution that the witness gives, of the test of this number.
-fn bar_by(
+/// The bar of the execution that the witness gives, of the test of this number: for each site the pairs that it keeps
+/// there. It takes time of sites times places. The error is F19.
+pub fn bar_by(
     alloc: Global,
     parts: &[Part],
     offers: &Offers,
@@ -149,8 +150,8 @@ fn bar_by(
     bar_of(alloc, &part.places, &witness.widths, sites)
 }
 
-/// The placement as an answer, with its cost.
-fn fenced(offers: &Offers, placement: Placement) -> Answer
+/// The placement as an answer, with its cost, which takes time of its fences times sites.
+pub fn fenced(offers: &Offers, placement: Placement) -> Answer
     ensures { result ≡ Answer.Fenced placement (cost offers.now placement) }
 {
     let cost = offers.cost(&placement);

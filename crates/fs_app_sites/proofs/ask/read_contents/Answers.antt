@@ -4,7 +4,7 @@ use Rattle.std.proofs.lemmas.List.Elements.{All-push}
 use Rattle.fs_app_place_order.proofs.Faults.{IfErr-handed}
 use Rattle.fs_app_sites.specs.Sites.{AreContents, IsContent, IsFileFault, IsSound}
 use Rattle.fs_app_sites.proofs.Reading.{later-fault, own-fault, read-more}
-use Rattle.fs_app_sites.proofs.solve.read_contents.Goals as goal
+use Rattle.fs_app_sites.proofs.ask.read_contents.Goals as goal
 
 pub returns-in_err-read_content-clause-err : goal.returns-in_err-read_content-clause-err
 returns-in_err-read_content-clause-err c =

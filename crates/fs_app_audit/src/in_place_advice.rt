@@ -69,8 +69,8 @@ fn advice_there(
     Some(advice_by(prices, is_between, own, kind))
 }
 
-/// What is advised of instruction `at`, mostly nothing. Linear in the code's length, and in that of the placement.
-pub(crate) fn advice_in_place(
+/// What is advised in place of instruction `at`, mostly nothing. Linear in the code's length, and in that of the placement.
+pub fn advice_in_place(
     prices: &Prices,
     placement: &Placement,
     hart: u8,

@@ -2,7 +2,7 @@ use Rattle.std.proofs.Common.{drop, take, ◌≢◌, ◌≡◌}
 use Rattle.std.specs.List.{All}
 use Rattle.fs_kinds.specs.declared.fault.Fault.{Fault}
 use Rattle.fs_app_sites.specs.Sites.{AreContents, IsFilesFault, IsSound}
-use Rattle.fs_app_sites.proofs.solve.read_contents.Given as goal
+use Rattle.fs_app_sites.proofs.ask.read_contents.Given as goal
 
 -- what the files so far hold; and a fault of those that are left is one of all
 abbrev pub invariant-loop-file : goal.invariant-loop-file

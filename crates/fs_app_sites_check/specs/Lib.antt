@@ -1,0 +1,4 @@
+pub mod SitesFile
+pub mod Kept
+pub mod Checked
+pub mod Certified
