@@ -22,5 +22,5 @@ pub use answered::why_certified;
 pub use forbidden::inferred_kinds;
 pub use fs_app_why_kinds::Telling;
 pub use order::{lines_of, why_order};
-pub use possible::{no_fences, why_allowed};
-pub use ruled_out::{verdict_on, why_forbidden};
+pub use possible::{no_fences, told, why_allowed};
+pub use ruled_out::{forbidden_text, verdict_on, why_forbidden};

@@ -40,8 +40,9 @@ fn full_fences(alloc: Global, test: &Test) -> Result<Placement, Fault>
 }
 
 /// The execution that the witness gives, below this heading, if it shows the outcome with these fences. In its order
-/// there may be more of program order. The error is F19.
-fn told(
+/// there may be more of program order. None where it gives no such execution. The error is F19. The cost is at most
+/// quartic in the operations.
+pub fn told(
     alloc: Global,
     heading: &str,
     test: &Test,

@@ -92,8 +92,10 @@ pub fn verdict_on(alloc: Global, test: &Arc<Test>, placement: &Placement) -> Res
     problem.judged(alloc, placement, &[])
 }
 
-/// Why the test forbids its outcome with these fences; none where it allows it.
-fn forbidden_text(
+/// Why the test forbids its outcome with these fences, as `why_forbidden` tells it; none where it allows it. The lines are
+/// those of its instructions, hart by hart. The faults are those of `verdict_on`. The cost is that of `why_forbidden`
+/// without reading.
+pub fn forbidden_text(
     alloc: Global,
     test: &Arc<Test>,
     lines: &[List<usize>],

@@ -3,3 +3,4 @@ pub mod Walked
 pub mod Ranges
 pub mod Places
 pub mod Turns
+pub mod Stale

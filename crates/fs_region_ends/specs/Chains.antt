@@ -1,5 +1,5 @@
 -- The ends of a refutation as chains of operations, with what is so of these in each run that is left there.
-use Rattle.std.specs.Prelude.{Option, None, Some, List, [], ◌∷◌, map, slice_get}
+use Rattle.std.specs.Prelude.{Bool, true, false, ◌&&◌, ◌==◌, nat_lt, Option, None, Some, List, [], ◌∷◌, map, slice_get}
 use Rattle.std.specs.List.{flat_map}
 use Rattle.fs_kinds.specs.declared.placement.Entry.{Entry}
 use Rattle.fs_kinds.specs.declared.reason.OperationName.{OperationName as Name}
@@ -75,6 +75,25 @@ parted_steps load store other =
 abbrev pub stale_steps : (load store : Name) → List Leading
 stale_steps load store = leading store Forgotten load ∷ leading load End load ∷ []
 
+abbrev pub is_from_reads : Cause → Bool
+is_from_reads FromReads = true
+is_from_reads cause = false
+
+-- does the link go to an own store that stands before its load in the code?
+abbrev pub goes_back : Link → (next : Name) → Bool
+goes_back link next =
+    is_from_reads link.cause && ((next.hart == link.operation.hart) && nat_lt next.at link.operation.at)
+
+-- the first of these links that does, with that store: its load is stale, whatever the other links are
+abbrev pub stale_in : (first : Name) → List Link → Option (Name × Name)
+stale_in first [] = None
+stale_in first (link ∷ links) =
+    if goes_back link (next_of first links) then Some (link.operation, next_of first links) else stale_in first links
+
+abbrev pub stale_of : List Link → Option (Name × Name)
+stale_of [] = None
+stale_of (link ∷ links) = stale_in link.operation (link ∷ links)
+
 module _ (t : Test) (p : List Entry) (region : Region) where
   -- the fences to which an arrow is due: those of rule 4
   abbrev pub due : Arrow → Name → Name → List Fence
@@ -107,9 +126,14 @@ module _ (t : Test) (p : List Entry) (region : Region) where
   abbrev pub chain_by : Shape → List Leading → Chain
   chain_by shape steps = record { shape = shape; links = map step_link steps }
 
+  -- a cycle is told as the stale load that it has, if it has one
+  abbrev pub cycle_chain : Option (Name × Name) → List Link → Chain
+  cycle_chain (Some (load, store)) links = chain_by kind.Stale (stale_steps load store)
+  cycle_chain None links = record { shape = kind.Cycle; links = cycle_links links }
+
   -- the chain of an end; of other inferences none
   abbrev pub chain_of : Inference → List Chain
-  chain_of (Cycle links) = record { shape = kind.Cycle; links = cycle_links links } ∷ []
+  chain_of (Cycle links) = cycle_chain (stale_of links) links ∷ []
   chain_of (Stale load store) = chain_by kind.Stale (stale_steps load store) ∷ []
   chain_of (Reversed load store) = chain_by kind.Cycle (reversed_steps region load store) ∷ []
   chain_of (Parted load store other) = chain_by kind.NotAtomic (parted_steps load store other) ∷ []

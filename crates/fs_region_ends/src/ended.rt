@@ -3,9 +3,9 @@
 ghost use Rattle.std.specs.Prelude.{◌≡◌, ◌++◌, ◌∷◌, [], IfOk, OnOk};
 ghost use Rattle.fs_cert_evidence.specs.Inferences.{inference_of};
 ghost use Rattle.fs_region_refutation.specs.Views.{region_of};
-ghost use Rattle.fs_region_ends.specs.Chains.{chain_by, chain_of, code_cause, cycle_links, due, link_of};
-ghost use Rattle.fs_region_ends.specs.Chains.{links_to, next_of};
-ghost use Rattle.fs_region_ends.specs.Chains.{parted_steps, reversed_steps, sole_of, stale_steps};
+ghost use Rattle.fs_region_ends.specs.Chains.{chain_by, chain_of, code_cause, cycle_chain, cycle_links, due};
+ghost use Rattle.fs_region_ends.specs.Chains.{goes_back, link_of, links_to, next_of};
+ghost use Rattle.fs_region_ends.specs.Chains.{parted_steps, reversed_steps, sole_of, stale_in, stale_of, stale_steps};
 ghost use Rattle.fs_region_ends.specs.declared.chain.Arrow.TheVariants.{Because};
 ghost use Rattle.fs_region_ends.specs.declared.chain.Shape.TheVariants as kind;
 
@@ -128,8 +128,41 @@ fn links_to(
     Ok(made)
 }
 
-/// The chain of a cycle.
-fn cycle(
+/// Does the link go to an own store that stands before its load in the code?
+fn goes_back(link: &Link, next: OperationName) -> bool
+    ensures { result ≡ goes_back link.now next }
+{
+    matches!(link.cause, Cause::FromReads)
+        && (next.hart == link.operation.hart && next.at < link.operation.at)
+}
+
+/// The load of the first of these links that does, with that store.
+fn stale_in(first: OperationName, links: &[Link]) -> Option<(OperationName, OperationName)>
+    ensures { result ≡ stale_in first links.now }
+{
+    let mut rest = links;
+    while let Some((link, more)) = rest.split_first() {
+        let next = next_of(first, more);
+        if goes_back(link, next) {
+            return Some((link.operation, next));
+        }
+        rest = more;
+    }
+    None
+}
+
+/// The same of a cycle.
+fn stale_of(links: &[Link]) -> Option<(OperationName, OperationName)>
+    ensures { result ≡ stale_of links.now }
+{
+    match links.first() {
+        Some(link) => stale_in(link.operation, links),
+        None => None,
+    }
+}
+
+/// The chain of a cycle without a stale load.
+fn whole_cycle(
     alloc: Global,
     basis: &Basis,
     placement: &Placement,
@@ -252,6 +285,23 @@ fn parted(
         leading(store, Arrow::Pair(load), store),
     ];
     chain(alloc, basis, placement, region, Shape::NotAtomic, &steps)
+}
+
+/// The chain of a cycle.
+fn cycle(
+    alloc: Global,
+    basis: &Basis,
+    placement: &Placement,
+    region: &Region<'_>,
+    links: &[Link],
+) -> Result<Chain, AllocError>
+    ensures { IfOk result (λ chain. chain ≡ cycle_chain basis.now placement.now (region_of region.now)
+        (stale_of links.now) links.now) }
+{
+    match stale_of(links) {
+        Some((load, store)) => stale(alloc, basis, placement, region, load, store),
+        None => whole_cycle(alloc, basis, placement, region, links),
+    }
 }
 
 /// Appends the chain of the inference, if it is an end.
