@@ -1,0 +1,3 @@
+pub mod Advised
+pub mod Needed
+pub mod Told
