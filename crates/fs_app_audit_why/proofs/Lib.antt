@@ -1,3 +1,3 @@
-pub mod Advised
+pub mod AsAdvised
 pub mod Needed
 pub mod Told

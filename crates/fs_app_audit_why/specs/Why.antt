@@ -40,21 +40,21 @@ fence_line lines telling kinds place kind =
     codes "\n" ++ (word kind ++ (codes " at " ++ (place_text lines (record { hart = place.hart; at = place.at })
     ++ (in_text telling kinds (fence_key (Written place.hart place.at)) ++ codes "\n"))))
 
--- an execution of the test that shows its outcome, below this heading
-abbrev pub TellsSome : Test → (lines : List (List ℕ)) → (heading text : List ℕ) → Type 0
-TellsSome t lines heading text = (w : Witness) × TellsExecution t (no_fences t) lines heading w text
+-- an execution of the test with these fences that shows its outcome, below this heading
+abbrev pub TellsSome : Test → List Entry → (lines : List (List ℕ)) → (heading text : List ℕ) → Type 0
+TellsSome t p lines heading text = (w : Witness) × TellsExecution t p lines heading w text
+
+-- one of the test without the fence in this place, the others as advised
+abbrev pub TellsWithout : Test → (lines : List (List ℕ)) → List Entry → Slot → (text : List ℕ) → Type 0
+TellsWithout t lines p place text =
+    (u : Test) × IsSame u (as_advised t (with_kind place None p)) × TellsSome u (no_fences u) lines without_heading text
 
 module _ (t : Test) (lines : List (List ℕ)) (telling : Telling) (kinds : List ChainKind) (p : List Entry) where
-  -- one of the test without the fence in this place, the others as advised
-  abbrev pub TellsWithout : Slot → (text : List ℕ) → Type 0
-  TellsWithout place text =
-      (u : Test) × IsSame u (as_advised t (with_kind place None p)) × TellsSome u lines without_heading text
-
   -- of a place in which no fence is advised nothing
   abbrev pub TellsPlace : Slot → Option FenceKind → (text : List ℕ) → Type 0
   TellsPlace place None text = text ≡ []
   TellsPlace place (Some kind) text =
-      (without : List ℕ) × TellsWithout place without × (text ≡ fence_line lines telling kinds place kind ++ without)
+      (without : List ℕ) × TellsWithout t lines p place without × (text ≡ fence_line lines telling kinds place kind ++ without)
 
   -- of those of these places that are asked for, in their order
   abbrev pub TellsPlaces : List Entry → (text : List ℕ) → Type 0
@@ -90,7 +90,7 @@ TellsInPlace t table lines telling text =
 abbrev pub TellsAs : Kind → Test → PriceTable → (lines : List (List ℕ)) → Telling → (text : List ℕ) → Type 0
 TellsAs Forbidden t table lines telling text =
     TellsUnless (lacks_written telling t) (unwritten_text telling) (TellsInPlace t table lines telling) text
-TellsAs Allowed t table lines telling text = TellsSome t lines allowed_heading text
+TellsAs Allowed t table lines telling text = TellsSome t (no_fences t) lines allowed_heading text
 TellsAs Vacuous t table lines telling text = text ≡ []
 TellsAs Faulty t table lines telling text = ⊥
 

@@ -86,8 +86,9 @@ fn advised_codes(alloc: Global, test: &Test, placement: &Placement) -> Result<Co
     ensures { IfOk result (λ made. made
         ≡ map (followed_code (is_changed test.now placement.now) placement.now) (enumerate_from 0 test.now.codes)) }
 {
+    let codes = test.codes.as_slice();
     let mut made = Vec::new(alloc);
-    for (hart, code) in test.codes.as_slice().iter().enumerate() {
+    for (hart, code) in codes.iter().enumerate() {
         made.push(advised_code(alloc, test, placement, hart as u8, code.as_slice())?)?;
     }
     Ok(Codes::new(made))

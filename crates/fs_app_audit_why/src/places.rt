@@ -7,17 +7,39 @@ ghost use Rattle.fs_kinds.specs.PriceTable.{PriceTable};
 ghost use Rattle.fs_model.specs.Allows.{Allows, no_fences};
 ghost use Rattle.fs_litmus.specs.Faults.{IsTestFault};
 ghost use Rattle.fs_litmus.specs.Reads.{Reads};
+ghost use Rattle.fs_region_ends.specs.declared.fences.Fence.TheVariants.{Written};
+ghost use Rattle.fs_app_why_kinds.specs.Counted.{in_text};
+ghost use Rattle.fs_app_why_kinds.specs.Told.{fence_key};
 ghost use Rattle.fs_app_audit_why.specs.Advised.{as_advised};
 ghost use Rattle.fs_app_audit_why.specs.Why.{AreAdvised, IsAdvisedFault, TellsPlace, TellsPlaces, TellsWithout, fence_line};
 
 use crate::advised::read_advised;
 use crate::executions::some_text;
 use crate::page::Page;
-use fs_app_why::{asked, place_text};
-use fs_app_why_kinds::{fence_key, in_text};
+use fs_app_why::{asked, no_fences, place_text};
+use fs_app_why_kinds::{Telling, fence_key, in_text};
 use fs_kinds::{Entry, Fault, Kind, OperationName, Placement, Slot};
 use fs_region_ends::{ChainKind, Fence};
 use std::alloc::{AllocError, Global};
+
+/// In which of the kinds the fence in this place is needed.
+fn needed_text(
+    alloc: Global,
+    telling: Telling,
+    kinds: &[ChainKind],
+    place: Slot,
+) -> Result<String, AllocError>
+    ensures { IfOk result (λ text. string_bytes text
+        ≡ in_text telling kinds.now (fence_key (Written place.hart place.at))) }
+{
+    let Slot { hart, at } = place;
+    in_text(
+        alloc,
+        telling,
+        kinds,
+        fence_key(Fence::Written { hart, at }),
+    )
+}
 
 /// The line of the fence in this place.
 fn fence_line(
@@ -32,12 +54,7 @@ fn fence_line(
 {
     let Slot { hart, at } = place;
     let there = place_text(alloc, page.lines, OperationName { hart, at })?;
-    let needed = in_text(
-        alloc,
-        page.telling,
-        kinds,
-        fence_key(Fence::Written { hart, at }),
-    )?;
+    let needed = needed_text(alloc, page.telling, kinds, place)?;
     format!(in alloc;
         "\n{} at {}{}\n",
         kind.name(),
@@ -75,8 +92,9 @@ fn without_text(
 {
     let others = without(placement, place)?;
     let test = read_advised(alloc, page.bytes, &others)?;
+    let none = no_fences(alloc, &test)?;
     let heading = "Without it, in the order of memory:\n";
-    some_text(alloc, heading, &test, page.lines)
+    some_text(alloc, heading, &test, page.lines, &none)
 }
 
 /// What is told of the fence in this place.

@@ -2,8 +2,7 @@
 
 ghost use Rattle.std.specs.Prelude.{◌≡◌, ◌≢◌, IfErr, IfOk, string_bytes};
 ghost use Rattle.std.specs.Arc.{arc_value};
-ghost use Rattle.fs_kinds.specs.Limits.{most_locations};
-ghost use Rattle.fs_model.specs.Allows.{Allows, no_fences};
+ghost use Rattle.fs_model.specs.Allows.{Allows};
 ghost use Rattle.fs_model.specs.Test.{IsTest};
 ghost use Rattle.fs_model.specs.TooMany.{IsRunFault};
 ghost use Rattle.fs_cert_evidence.specs.CandidateFaults.{IsCandidateFault};
@@ -12,7 +11,7 @@ ghost use Rattle.fs_cert_evidence.specs.Valid.{Forbid};
 ghost use Rattle.fs_app_why.specs.Forbidden.{AreKinds, cycles_text};
 ghost use Rattle.fs_app_why.specs.Why.{TellsForbidden};
 
-use fs_app_why::{contradictions_text, inferred_kinds, no_fences, verdict_on};
+use fs_app_why::{contradictions_text, inferred_kinds, verdict_on};
 use fs_app_why_kinds::Telling;
 use fs_cert_evidence::Cycles;
 use fs_judge::Verdict;
@@ -24,7 +23,7 @@ use std::sync::Arc;
 
 /// What is told of a refutation, and the kinds of contradictions in it.
 #[derive(Drop)]
-pub(crate) struct Refuted {
+pub(crate) struct Refutation {
     pub(crate) text: String,
     pub(crate) kinds: Vec<ChainKind>,
 }
@@ -76,7 +75,7 @@ fn refuted_by(
     telling: Telling,
     placement: &Placement,
     cycles: &Cycles,
-) -> Result<Refuted, Fault>
+) -> Result<Refutation, Fault>
     requires test { IsTest (arc_value test.now) }
     requires shows { Forbid (arc_value test.now) placement.now (cycles_of cycles.now) }
     ensures told { IfOk result (λ made.
@@ -86,34 +85,31 @@ fn refuted_by(
 {
     let kinds = kinds_by(alloc, test, placement, cycles)?;
     let text = cycles_text(alloc, test, lines, telling, cycles, &kinds)?;
-    Ok(Refuted { text, kinds })
+    Ok(Refutation { text, kinds })
 }
 
-/// Why the test forbids its outcome: the contradictions of what a verdict shows. The faults are those of `verdict_on`.
-/// The cost is that of `forbidden_text` of fs_app_why.
+/// Why the test forbids its outcome with these fences: the contradictions of what a verdict shows. The faults are those
+/// of `verdict_on`. The cost is that of `forbidden_text` of fs_app_why.
 pub(crate) fn refuted(
     alloc: Global,
     test: &Arc<Test>,
     lines: &[List<usize>],
     telling: Telling,
-) -> Result<Refuted, Fault>
+    placement: &Placement,
+) -> Result<Refutation, Fault>
     requires test { IsTest (arc_value test.now) }
-    requires forbidden { Allows (arc_value test.now) (no_fences (arc_value test.now)) → ⊥ }
+    requires forbidden { Allows (arc_value test.now) placement.now → ⊥ }
     ensures told { IfOk result (λ made.
-        (told : TellsForbidden (arc_value test.now) lines.now telling (no_fences (arc_value test.now)) (string_bytes made.text))
+        (told : TellsForbidden (arc_value test.now) lines.now telling placement.now (string_bytes made.text))
         × (told.kinds ≡ made.kinds.items)) }
     ensures err { IfErr result (λ f. f ≢ Fault.Memory → IsCandidateFault (arc_value test.now) f) }
 {
-    let placement = no_fences(alloc, test)?;
-    match verdict_on(alloc, test, &placement)? {
-        Verdict::Forbids(forbidden) => refuted_by(
-            alloc,
-            test,
-            lines,
-            telling,
-            &placement,
-            &forbidden.cycles,
-        ),
+    let verdict = verdict_on(alloc, test, placement)?;
+    match verdict {
+        Verdict::Forbids(forbidden) => {
+            let made = refuted_by(alloc, test, lines, telling, placement, &forbidden.cycles)?;
+            Ok(made)
+        }
         Verdict::Allowed(_) => unreachable!(),
     }
 }

@@ -20,16 +20,20 @@ use crate::advised::read_advised;
 use crate::executions::shown_text;
 use crate::page::Page;
 use crate::places::places_text;
-use crate::refutation::{Refuted, refuted};
+use crate::refutation::{Refutation, refuted};
 use fs_app_audit::{find_in_place, read_shared};
 use fs_app_test::{Kind, Said, judge_test};
-use fs_app_why::{lacks_written, lines_of, unwritten_text};
+use fs_app_why::{lacks_written, lines_of, no_fences, unwritten_text};
 use fs_app_why_kinds::Telling;
 use fs_kinds::{Fault, Placement, Prices, read_prices};
 use std::alloc::Global;
 
 /// Why the test with these fences in place rules its outcome out, as it is advised.
-fn refuted_in_place(alloc: Global, page: Page<'_>, placement: &Placement) -> Result<Refuted, Fault>
+fn refuted_in_place(
+    alloc: Global,
+    page: Page<'_>,
+    placement: &Placement,
+) -> Result<Refutation, Fault>
     requires reads { Reads page.bytes.now page.test.now }
     requires advised { (table : PriceTable) × AreAdvised page.test.now table placement.now }
     ensures told { IfOk result (λ made. (u : Tests) × IsSame u (as_advised page.entry.test.now placement.now)
@@ -39,7 +43,8 @@ fn refuted_in_place(alloc: Global, page: Page<'_>, placement: &Placement) -> Res
         → IsTestFault page.entry.bytes.now f ⊎ IsAdvisedFault page.entry.test.now placement.now f) }
 {
     let test = read_advised(alloc, page.bytes, placement)?;
-    refuted(alloc, &test, page.lines, page.telling)
+    let none = no_fences(alloc, &test)?;
+    refuted(alloc, &test, page.lines, page.telling, &none)
 }
 
 /// What is told of a test with these fences in place.
@@ -51,9 +56,8 @@ fn advised_text(alloc: Global, page: Page<'_>, placement: &Placement) -> Result<
     ensures err { IfErr result (λ f. f ≢ Fault.Memory
         → IsTestFault page.entry.bytes.now f ⊎ IsAdvisedFault page.entry.test.now placement.now f) }
 {
-    let refuted = refuted_in_place(alloc, page, placement)?;
-    let fences = places_text(alloc, page, placement, &refuted.kinds)?;
-    let mut text = refuted.text;
+    let Refutation { mut text, kinds } = refuted_in_place(alloc, page, placement)?;
+    let fences = places_text(alloc, page, placement, &kinds)?;
     text.push_str(fences.as_str())?;
     Ok(text)
 }
@@ -106,14 +110,16 @@ fn allowed_text(alloc: Global, page: Page<'_>, said: &Said) -> Result<String, Fa
     requires test { IsTest page.test.now }
     requires tested { IsTestedAs page.test.now Kind.Allowed (string_bytes said.now.why) (witness_in said.now.witness) }
     ensures told { IfOk result (λ text.
-        TellsSome page.entry.test.now page.entry.lines.now allowed_heading (string_bytes text)) }
+        TellsSome page.entry.test.now (no_fences page.entry.test.now) page.entry.lines.now allowed_heading
+        (string_bytes text)) }
     ensures err { IsOkUnless result Fault.Memory }
 {
     let Some(witness) = &said.witness else {
         unreachable!()
     };
     let heading = "\nThe outcome can be, in the order of memory:\n";
-    shown_text(alloc, heading, page.test, page.lines, witness)
+    let none = no_fences(alloc, page.test)?;
+    shown_text(alloc, heading, page.test, page.lines, &none, witness)
 }
 
 /// What is told of a test, by what is said of it as it is written.
