@@ -178,3 +178,14 @@ asked_by false own kind is = is
 -- what is asked for is there
 pub asked_kind : (telling : Telling) (entry : Entry) (kind : Kind) → (asked telling entry).kind ≡ Some kind → entry.kind ≡ Some kind
 asked_kind telling entry kind is = asked_by (is_passed telling entry.slot) entry.kind kind is
+
+-- of an entry of a placement whose slots rise
+pub asked_at : (telling : Telling) (items p : List Entry) (k : ℕ) (d made : Entry) (kind : Kind) → items ≡ p
+    → is_rising (slots_of p) ≡ true → k < length items → made ≡ asked telling (get_or items k d) → made.kind ≡ Some kind
+    → kind_at made.slot p ≡ Some kind
+asked_at telling items p k d made kind same rising low is at =
+    let own : kind_at (get_or items k d).slot items ≡ (get_or items k d).kind =
+    own_kind items k d (subst (λ q. is_rising (slots_of q) ≡ true) (sym same) rising) low in
+    let there : (get_or items k d).kind ≡ Some kind = asked_kind telling (get_or items k d) kind (ap (λ e. e.kind) (sym is) ∙ at) in
+    subst (λ q. kind_at made.slot q ≡ Some kind) same
+    (ap (λ e. kind_at e.slot items) is ∙ own ∙ there)
