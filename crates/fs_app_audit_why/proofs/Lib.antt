@@ -1,3 +1,4 @@
 pub mod AsAdvised
 pub mod Needed
 pub mod Told
+pub mod Answered

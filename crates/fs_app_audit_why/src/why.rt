@@ -56,7 +56,8 @@ fn advised_text(alloc: Global, page: Page<'_>, placement: &Placement) -> Result<
     ensures err { IfErr result (λ f. f ≢ Fault.Memory
         → IsTestFault page.entry.bytes.now f ⊎ IsAdvisedFault page.entry.test.now placement.now f) }
 {
-    let Refutation { mut text, kinds } = refuted_in_place(alloc, page, placement)?;
+    let refutation = refuted_in_place(alloc, page, placement)?;
+    let Refutation { mut text, kinds } = refutation;
     let fences = places_text(alloc, page, placement, &kinds)?;
     text.push_str(fences.as_str())?;
     Ok(text)

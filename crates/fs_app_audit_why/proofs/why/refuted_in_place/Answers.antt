@@ -1,4 +1,4 @@
-use Rattle.std.proofs.Common.{◌∙◌, ap, inl, inr, subst, sym}
+use Rattle.std.proofs.Common.{◌≡◌, ◌∙◌, ap, inl, inr, string_bytes, subst, sym}
 use Rattle.std.specs.Arc.{arc_value}
 use Rattle.std.proofs.lemmas.Result.{IfErr-weaker, IfOk-weaker}
 use Rattle.fs_model.specs.Allows.{Allows, no_fences}
@@ -25,7 +25,7 @@ returns-clause-told c =
     (λ made told. (
       u,
       c.in_ok-test.ensures.same t c.requires.reads,
-      subst (λ q. (told : TellsForbidden u lines c.args.page.telling q _) × _) (c.in_ok-none.ensures.ok ∙ ap no_fences c.deref.ensures) told,
+      subst (λ q. (f : TellsForbidden u lines c.args.page.telling q (string_bytes made.text)) × (f.kinds ≡ made.kinds.items)) (c.in_ok-none.ensures.ok ∙ ap no_fences c.deref.ensures) told,
     ))
     c.refuted.ensures.told
 
