@@ -6,6 +6,7 @@ use Rattle.fs_kinds.specs.Placement.{with_kind}
 use Rattle.fs_model.specs.declared.test.Test.{Test}
 use Rattle.fs_model.specs.Allows.{Allows, no_fences}
 use Rattle.fs_model.specs.Test.{IsSame}
+use Rattle.fs_app_why.specs.Why.{without_heading}
 use Rattle.fs_app_audit_why.specs.Advised.{as_advised}
 use Rattle.fs_app_audit_why.specs.Why.{TellsSome}
 use Rattle.fs_app_audit_why.proofs.AsAdvised.{allowed_back}
@@ -25,7 +26,7 @@ returns-clause-told c =
     let t = c.args.page.test.now in
     let same = subst (λ p. IsSame u (as_advised t p)) c.in_ok-others.ensures.ok (c.in_ok-test.ensures.same t c.requires.reads) in
     IfOk-weaker c.some_text.result _ _
-    (λ text told. (u, same, subst (λ p. TellsSome u p c.args.page.lines.now _ (string_bytes text)) (c.in_ok-none.ensures.ok ∙ ap no_fences c.deref.ensures) told))
+    (λ text told. (u, same, subst (λ p. TellsSome u p c.args.page.lines.now without_heading (string_bytes text)) (c.in_ok-none.ensures.ok ∙ ap no_fences c.deref.ensures) told))
     c.some_text.ensures.told
 
 pub returns-clause-err : goal.returns-clause-err

@@ -23,10 +23,10 @@ returns-clause-told c =
     let lines = c.args.page.lines.now in
     IfOk-weaker c.refuted.result _ _
     (λ made told. (
-      u,
-      c.in_ok-test.ensures.same t c.requires.reads,
-      subst (λ q. (f : TellsForbidden u lines c.args.page.telling q (string_bytes made.text)) × (f.kinds ≡ made.kinds.items)) (c.in_ok-none.ensures.ok ∙ ap no_fences c.deref.ensures) told,
-    ))
+      let those = subst (λ q. (f : TellsForbidden u lines c.args.page.telling q (string_bytes made.text)) × (f.kinds ≡ made.kinds.items))
+      (c.in_ok-none.ensures.ok ∙ ap no_fences c.deref.ensures) told in
+      (u, c.in_ok-test.ensures.same t c.requires.reads, those.0, those.1)
+      ))
     c.refuted.ensures.told
 
 pub returns-clause-err : goal.returns-clause-err
