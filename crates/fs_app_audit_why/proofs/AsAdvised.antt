@@ -1,5 +1,5 @@
 -- The test in which FENCEs are as advised is a test, and its outcome is ruled out.
-use Rattle.std.proofs.Common.{◌≡◌, ℕ, zero, suc, ◌+◌, ◌<◌, ◌≤◌, ◌&&◌, not, List, [], ◌∷◌, length, map, cond, Bool, true, false, Option, None, Some, refl, ap, sym, ◌∙◌, subst, arith, All, if◌then◌else◌}
+use Rattle.std.proofs.Common.{◌≡◌, ℕ, zero, suc, ◌+◌, ◌≤◌, ◌&&◌, not, List, [], ◌∷◌, length, map, cond, Bool, true, false, Option, None, Some, refl, ap, sym, ◌∙◌, subst, arith, All, if◌then◌else◌}
 use Rattle.std.specs.Prelude.{count_by, option_and_then, slice_get, sum_by}
 use Rattle.std.specs.List.{enumerate_from}
 use Rattle.std.proofs.lemmas.List.{length-map}

@@ -8,13 +8,12 @@ use Rattle.fs_kinds.specs.declared.kind.Kind.{Kind}
 use Rattle.fs_kinds.specs.declared.kind.Kind.TheVariants.{RR, RW, RRw, WR, WW, WRw, RwR, RwW, RwRw, Tso}
 use Rattle.fs_kinds.specs.declared.placement.Entry.{Entry}
 use Rattle.fs_kinds.specs.declared.slot.Slot.{Slot}
-use Rattle.fs_kinds.specs.Kind.{Pair, no_stronger, pairs_of}
+use Rattle.fs_kinds.specs.Kind.{Pair, pairs_of}
 use Rattle.fs_kinds.specs.Placement.{entry_with, kind_at, pairs_kept, slots_of, with_kind}
 use Rattle.fs_kinds.specs.PriceTable.{PriceTable}
 use Rattle.fs_kinds.specs.Slot.{is_before, is_rising, is_same_slot}
 use Rattle.fs_model.specs.declared.test.Test.{Test}
 use Rattle.fs_model.specs.Allows.{Allows, no_fences}
-use Rattle.fs_model.specs.Slots.{slot_at}
 use Rattle.fs_model_laws.specs.Strength.{KeepsNoMore}
 use Rattle.fs_model_laws.proofs.FencedOperations.{index_numbered}
 use Rattle.fs_model_laws.proofs.FencedSame.{shows_same}

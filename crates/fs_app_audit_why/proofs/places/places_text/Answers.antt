@@ -2,8 +2,7 @@ use Rattle.std.proofs.Common.{◌∙◌, List, ap, get_or, take, subst, sym, str
 use Rattle.std.proofs.lemmas.List.{take_more}
 use Rattle.std.specs.Prelude.{IsTrue}
 use Rattle.fs_kinds.specs.declared.placement.Entry.{Entry}
-use Rattle.fs_kinds.specs.Placement.{has_slot, slots_of}
-use Rattle.fs_kinds.specs.Slot.{is_rising}
+use Rattle.fs_kinds.specs.Placement.{has_slot}
 use Rattle.fs_app_why.proofs.Certified.{has_own}
 use Rattle.fs_app_audit_why.specs.Why.{TellsPlace, TellsPlaces}
 use Rattle.fs_app_audit_why.proofs.Needed.{allowed_without, asked_at}

@@ -1,9 +1,7 @@
-use Rattle.std.proofs.Common.{◌∙◌, ap, inl, inr, None, string_bytes, subst, sym, IfOk}
+use Rattle.std.proofs.Common.{◌∙◌, ap, inr, None, string_bytes, subst, sym}
 use Rattle.std.specs.Arc.{arc_value}
 use Rattle.std.proofs.lemmas.Result.{IfErr-weaker, IfOk-weaker}
-use Rattle.fs_kinds.specs.declared.placement.Entry.{Entry}
 use Rattle.fs_kinds.specs.Placement.{with_kind}
-use Rattle.fs_model.specs.declared.test.Test.{Test}
 use Rattle.fs_model.specs.Allows.{Allows, no_fences}
 use Rattle.fs_model.specs.Test.{IsSame}
 use Rattle.fs_app_why.specs.Why.{without_heading}

@@ -1,4 +1,4 @@
-use Rattle.std.proofs.Common.{◌≡◌, ◌∙◌, ap, inl, inr, string_bytes, subst, sym}
+use Rattle.std.proofs.Common.{◌≡◌, ◌∙◌, ap, inl, inr, string_bytes, subst}
 use Rattle.std.specs.Arc.{arc_value}
 use Rattle.std.proofs.lemmas.Result.{IfErr-weaker, IfOk-weaker}
 use Rattle.fs_model.specs.Allows.{Allows, no_fences}
@@ -23,10 +23,10 @@ returns-clause-told c =
     let lines = c.args.page.lines.now in
     IfOk-weaker c.refuted.result _ _
     (λ made told. (
-      let those = subst (λ q. (f : TellsForbidden u lines c.args.page.telling q (string_bytes made.text)) × (f.kinds ≡ made.kinds.items))
-      (c.in_ok-none.ensures.ok ∙ ap no_fences c.deref.ensures) told in
-      (u, c.in_ok-test.ensures.same t c.requires.reads, those.0, those.1)
-      ))
+    let those = subst (λ q. (f : TellsForbidden u lines c.args.page.telling q (string_bytes made.text)) × (f.kinds ≡ made.kinds.items))
+    (c.in_ok-none.ensures.ok ∙ ap no_fences c.deref.ensures) told in
+    (u, c.in_ok-test.ensures.same t c.requires.reads, those.0, those.1)
+    ))
     c.refuted.ensures.told
 
 pub returns-clause-err : goal.returns-clause-err
