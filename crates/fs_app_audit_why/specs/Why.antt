@@ -94,6 +94,7 @@ TellsAs Allowed t table lines telling text = TellsSome t (no_fences t) lines all
 TellsAs Vacuous t table lines telling text = text ≡ []
 TellsAs Faulty t table lines telling text = ⊥
 
+-- what is told by what is said of the test as it is written
 pub record IsAuditWhy (telling : Telling) (test prices text : List ℕ) : Type 0 where
   pub own : Test
   pub reads : Reads test own

@@ -11,7 +11,8 @@ ghost use Rattle.fs_region_ends.specs.declared.fences.Fence.TheVariants.{Written
 ghost use Rattle.fs_app_why_kinds.specs.Counted.{in_text};
 ghost use Rattle.fs_app_why_kinds.specs.Told.{fence_key};
 ghost use Rattle.fs_app_audit_why.specs.Advised.{as_advised};
-ghost use Rattle.fs_app_audit_why.specs.Why.{AreAdvised, IsAdvisedFault, TellsPlace, TellsPlaces, TellsWithout, fence_line};
+ghost use Rattle.fs_app_audit_why.specs.Why.{AreAdvised, IsAdvisedFault, TellsPlace, TellsPlaces, TellsWithout};
+ghost use Rattle.fs_app_audit_why.specs.Why.{fence_line};
 
 use crate::advised::read_advised;
 use crate::executions::some_text;

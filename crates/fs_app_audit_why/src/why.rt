@@ -72,7 +72,8 @@ fn in_place_text(
 ) -> Result<String, Fault>
     requires reads { Reads page.bytes.now page.test.now }
     requires bounded { IsBounded page.test.now }
-    requires tested { (why : Items ℕ) × (witness : Option Witnesses) × IsTestedAs page.test.now Kind.Forbidden why witness }
+    requires tested { (why : Items ℕ) × (witness : Option Witnesses)
+        × IsTestedAs page.test.now Kind.Forbidden why witness }
     requires most { limit ≤ 1000000 }
     ensures told { IfOk result (λ text. TellsInPlace page.entry.test.now prices.now page.entry.lines.now
         page.entry.telling (string_bytes text)) }
@@ -92,7 +93,8 @@ fn forbidden_text(
 ) -> Result<String, Fault>
     requires reads { Reads page.bytes.now page.test.now }
     requires bounded { IsBounded page.test.now }
-    requires tested { (why : Items ℕ) × (witness : Option Witnesses) × IsTestedAs page.test.now Kind.Forbidden why witness }
+    requires tested { (why : Items ℕ) × (witness : Option Witnesses)
+        × IsTestedAs page.test.now Kind.Forbidden why witness }
     requires most { limit ≤ 1000000 }
     ensures told { IfOk result (λ text. TellsAs Kind.Forbidden page.entry.test.now prices.now page.entry.lines.now
         page.entry.telling (string_bytes text)) }
@@ -151,16 +153,16 @@ fn told_text(
 /// What `audit --why` prints below what `run_audit` of fs_app_audit answers, for a test file and a file of prices.
 ///
 /// Of a test that is forbidden as it is written first come, as many as `telling` says, the contradictions that rule the
-/// outcome out in the test in which each FENCE is as it is advised: it stays, or another one stands in its place, or
+/// outcome out in the test in which each FENCE is as it is advised in place: it stays, or another one stands there, or
 /// `fence io,io`. Then of each fence that is advised comes a line that says in which kinds of contradictions it is
-/// needed, and below it an execution that shows the outcome where this one is missing too. Where one FENCE is asked for,
-/// and the instruction is none, a line says so. Of a test that is allowed as it is written comes an execution that shows
-/// the outcome, and of a vacuous one nothing.
+/// needed, and below it an execution that shows the outcome where this one is missing too. Where one FENCE is asked
+/// for, and the instruction is none, a line says so. Of a test that is allowed as it is written comes an execution that
+/// shows the outcome, and of a vacuous one nothing.
 ///
 /// The first fault in this order: those of `run_audit` but for its search anew, and those of `verdict_on` of fs_app_why
 /// for each test that is judged. The test is judged and searched in place once more, as `run_audit` does; the cost is
-/// also that of `forbidden_text` of fs_app_why, and for each fence that of reading the test, of a verdict, and of `told`
-/// of fs_app_why.
+/// also that of `forbidden_text` of fs_app_why, and for each fence that of reading the test, of a verdict, and of
+/// `told` of fs_app_why.
 pub fn why_audit(
     alloc: Global,
     telling: Telling,
