@@ -1,45 +1,67 @@
 """Compares `rvfence solve --sites` with a plain list of placements, on questions of one to three tests of
-scripts/litmus.py into which labels of one to three sites are put by chance.
+scripts/litmus.py into which labels of one to four sites are put by chance. In some each other slot is a site, too
+(`--free`), and most have weights. `scripts/check compare-sites 3000 1000` asks 3,000 from number 1,000 on.
 
 The list goes over all placements of the sites, the cheapest first and of equal cost in the order of kinds, writes the
 fences as FENCE instructions at all places of each site, and asks the solver in Python whether each test forbids its
-outcome. The first for which all do is the answer. Where there is none, the file that is named must be the first whose
-outcome is allowed with `rw,rw` at every site, and `order` must say yes to the execution in the test with these FENCEs.
+outcome. The first for which all do is the answer; `place` must put it in so. Where there is none, the file that is
+named must be the first whose outcome is allowed with `rw,rw` at every site, and `order` must take the execution.
 
 `--cert` must write a certificate to which `check --sites` says yes with the same answer, and so must
-`scripts/check_certificate.py --sites`. Of ten others, made of it with a change or two, the two must say the same."""
+`scripts/check_certificate.py --sites`. Of others, made of it with a change or two, the two must say the same. And where
+FENCEs are put behind the labels, most as the answer has them, `audit --sites` must say of them what the list does.
+
+Of each test of examples/, which have no such labels, `--sites --free` must change no byte of the answer."""
+import collections
 import functools
+import glob
 import itertools
 import json
 import random
+import re
 
 import check_certificate as model
 import solve_reference as reference
+from checks.compare_audit import STATUS, Columns, fence_of
 from checks.compare_check import mangled
 from litmus import Maker
-from running import Said, read, rvfence, written
-from verdicts import YES, SitesJudge
+from running import EXAMPLES, Said, read, rvfence, side_by_side, written
+from verdicts import YES, SitesJudge, verdict_of
 
-NAMES = ["lock", "un_lock", "wmb"]
+NAMES = ["lock", "un_lock", "wmb", "r2d"]
+LINUX = f"{EXAMPLES}/prices-linux.json"
 ONES = model.prices_of(b'{"rw,rw":1}')
-MANGLED = 10        # certificates that are made of each
+MOST_PLACEMENTS = 130
+MOST_RUNS = 300
+POOL = 20           # ten questions have so many tests in common, with other labels
+MANGLED = 6         # certificates that are made of each
+
+
+@functools.lru_cache(POOL)
+def made_columns(number):
+    """The test of a number, or of another where its harts have so many runs that a list would take long."""
+    text = Maker(number).make()[0]
+    try:
+        is_small = sum(map(len, model.all_runs(model.test_of(text)))) <= MOST_RUNS
+    except model.Fault:
+        is_small = False
+    return Columns(text.decode()) if is_small else made_columns(number + 10 ** 6)
 
 
 class Test:
-    """A made test as columns of cells, and the sites of its places: by hart and number of the cell."""
+    """A made test as columns of cells, and the sites of its places: by hart and number of the cell, as of instructions.
+    The name of a slot's own site has a `:`, and no label."""
 
     def __init__(self, number, chance, names):
-        text = Maker(number).make()[0].decode()
-        lines = text.rstrip("\n").split("\n")
-        top = 1 + next(number for number, line in enumerate(lines) if line.startswith("P0"))
-        self.above, self.condition = lines[:top], lines[-1]
-        rows = [line.removesuffix(" ;").split(" | ") for line in lines[top:-1]]
-        columns = [[cell.strip() for cell in column if cell.strip()] for column in zip(*rows)]
+        made = made_columns(number)
+        self.above, self.condition = made.above, made.condition
+        columns = [[*map(str, column)] for column in made.cells]
         # a label to which no branch goes would name a site
         self.columns = [column if any(cell.endswith(",OUT") for cell in column) else column[:-1] for column in columns]
         spots = [(hart, at) for hart, column in enumerate(self.columns) for at in range(len(column))]
-        density = chance.choice([0.3, 0.7, 0.9, 1])
+        density = chance.choice([0.4, 0.8, 1, 1, 1])
         self.places = {spot: chance.choice(names) for spot in spots if chance.random() < density}
+        self.allows = functools.cache(self.allows)
 
     def text(self, change):
         """The test with what `change` makes of the cells of each hart."""
@@ -48,26 +70,25 @@ class Test:
         rows = [" | ".join(row) + " ;" for row in itertools.zip_longest(*columns, fillvalue="")]
         return "\n".join([*self.above, *rows, self.condition, ""])
 
-    def labelled(self):
-        """With labels: of each site by numbers of its copies."""
+    def labelled(self, kinds=()):
+        """With labels: of each site by numbers of its copies; and behind them FENCEs of these kinds, by place."""
         numbers = itertools.count()
 
         def change(hart, at, cell):
-            name = self.places.get((hart, at))
-            return [f"{name}_{next(numbers)}: {cell}" if name else cell]
+            name, kind = self.places.get((hart, at), ":"), dict(kinds).get((hart, at))
+            first, *rest = [fence_of(kind), cell] if kind else [cell]
+            return [first if ":" in name else f"{name}_{next(numbers)}: {first}", *rest]
 
         return self.text(change)
 
     def fenced(self, kinds):
-        """With FENCEs of these kinds, by the names of sites. One comes behind the label of its instruction."""
+        """With FENCEs of these kinds, by the names of sites, but for one behind which no instruction stands."""
         def change(hart, at, cell):
             kind = kinds.get(self.places.get((hart, at)))
-            fence = [] if kind is None else ["fence.tso" if kind == "tso" else f"fence {kind}"]
-            return [cell, *fence] if cell.endswith(":") else [*fence, cell]
+            return [fence_of(kind), cell] if kind and not cell.endswith(":") else [cell]
 
         return self.text(change)
 
-    @functools.cache
     def allows(self, *kinds):
         """Is the outcome allowed with these fences, each a name and a kind?"""
         return bool(reference.Problem(model.test_of(self.fenced(dict(kinds)).encode()), ONES).live)
@@ -76,67 +97,116 @@ class Test:
         """The same by all sites, of which only those count that the test has."""
         return self.allows(*[(name, kinds[name]) for name in sorted(set(self.places.values()))])
 
-    def moved(self, witness):
-        """The witness of an execution, with the names of operations in the test with a FENCE at each place."""
-        def name(found):
-            hart, at = map(int, found[1:].split(":"))
-            return f"P{hart}:{at + sum(place[0] == hart and place[1] <= at for place in self.places)}"
+    def is_fit(self, chance):
+        """But for some, do fences rule its outcome out?"""
+        return not self.is_allowed(dict.fromkeys(NAMES, "rw,rw")) or chance.random() < 0.25
 
-        return {**witness, "order": [name(found) for found in witness["order"]]}
-
-
-def is_listed(test):
-    """Can its candidates be listed?"""
-    try:
-        return test.is_allowed(dict.fromkeys(NAMES)) is not None
-    except model.Fault:
-        return False
+    def free_slots(self, prefix):
+        """Makes each slot without a label a site of its own."""
+        own = {slot: "%sP%d:%d" % (prefix, *slot) for slot in model.test_of(self.labelled().encode()).slots()}
+        self.places = dict(sorted({**own, **self.places}.items()))
 
 
-def made(number):
-    """The tests, the names of the sites in the order in which they stand, and the prices of this number."""
-    chance = random.Random(f"sites {number}")
-    names = NAMES[:chance.choice([1, 2, 2, 3])]
-    texts = (Test(20 * number + at, chance, names) for at in itertools.count())
-    tests = list(itertools.islice(filter(is_listed, texts), chance.choice([1, 1, 2, 2, 3])))
-    offered = {*chance.sample(model.KINDS, chance.choice([1, 2, 3])), "rw,rw"}
-    prices = {kind: chance.randint(1, 5) for kind in model.KINDS if kind in offered}
-    return tests, list(dict.fromkeys(name for test in tests for name in test.places.values())), prices
+class Question:
+    """The question of a number: tests, of which one may stand twice, their files, prices, and the names of the sites in
+    the order in which they stand."""
+
+    def __init__(self, number, folder):
+        self.chance = chance = random.Random(f"sites {number}")
+        self.is_free = chance.random() < 0.3
+        while True:
+            labels, first = NAMES[:chance.choice([1, 2, 2, 3, 4])], POOL * (number // 10)
+            made = (Test(first + chance.randrange(POOL), chance, labels) for _ in itertools.count())
+            tests = list(itertools.islice((it for it in made if it.is_fit(chance)), chance.choice([1, 1, 2, 2, 3])))
+            chosen = [*range(len(tests)), *[0] * (chance.random() < 0.1)]
+            self.tests, self.files = [tests[it] for it in chosen], [f"{folder}/{it}" for it in chosen]
+            for test, file in zip(self.tests, self.files) if self.is_free else ():
+                test.free_slots(f"{file}:" if len(chosen) > 1 else "")
+            self.names = list(dict.fromkeys(name for test in self.tests for name in test.places.values()))
+            counts = [it for it in range(10) if (2 + it) ** len(self.names) <= MOST_PLACEMENTS]
+            if counts:
+                break
+        offered = {*chance.sample(model.KINDS, chance.choice(counts[:4])), "rw,rw"}
+        self.prices = {kind: chance.randint(1, 5) for kind in model.KINDS if kind in offered}
+        weights = {name: chance.choice([0, 1, 2, 3]) for name in [*self.names, "no site"] if chance.random() < 0.6}
+        self.weights = chance.choice([{}, weights, weights])
+        self.is_alone = self.is_free and len(self.files) == 1
+        self.options = ["--sites", *["--free"] * self.is_free]
+
+    def write(self, folder):
+        """Writes the files, and gives their names, with that of the prices at the end."""
+        prices = {**self.prices, **({"weights": self.weights} if self.weights else {})}
+        tests = [written(file, test.labelled()) for test, file in zip(self.tests, self.files)]
+        return [*tests, written(f"{folder}/prices", json.dumps(prices))]
+
+    def price(self, name, kind):
+        """What a fence costs; one without a price what the cheapest kind does that orders all that it orders."""
+        prices = [price for it, price in self.prices.items() if kind == it or is_enough(it, kind)]
+        return self.prices.get(kind, min(prices)) * self.weights.get(name, 1)
+
+    def cost(self, placed):
+        return sum(self.price(name, kind) for name, kind in placed.items() if kind)
+
+    def answer(self):
+        """The first of the cheapest placements that forbid all outcomes, by the names of sites, or None."""
+        ways = itertools.product([None, *self.prices], repeat=len(self.names))
+        tests = list(dict.fromkeys(self.tests))
+        for placed in sorted((dict(zip(self.names, kinds)) for kinds in ways), key=self.cost):
+            if not any(test.is_allowed(placed) for test in tests):
+                return placed
+            tests.sort(key=lambda test: not test.is_allowed(placed))        # those that allow theirs come first
+        return None
+
+    def lines(self, placed):
+        fences = [(f"fence {name.replace(':', ' ')}" if self.is_alone and ":" in name else f"site {name}", kind)
+                  for name, kind in placed.items() if kind]
+        return "".join(f"{where} {what}\n" for where, what in [("fenced", self.cost(placed)), *fences])
+
+    def placings(self, placed):
+        """Of each test itself, its file, and the words for `place` and `order`."""
+        for test, file in zip(self.tests, self.files):
+            here = {name: placed[name] for name in test.places.values() if placed[name]}
+            yield test, file, [f"{name.removeprefix(f'{file}:')}={kind}" for name, kind in here.items()]
+
+    def first_allowed(self):
+        """The file and the words of the first test whose outcome is allowed with rw,rw at every site."""
+        top = dict.fromkeys(self.names, "rw,rw")
+        return next(it[1:] for it in self.placings(top) if it[0].is_allowed(top))
 
 
-def answer_of(tests, names, prices):
-    """The lines of the cheapest placement that forbids all outcomes, or None."""
-    options = [None, *prices]
-    placements = []
-    for numbers in itertools.product(range(len(options)), repeat=len(names)):
-        kinds = [options[number] for number in numbers]
-        placements.append((sum(prices.get(kind, 0) for kind in kinds), numbers, kinds))
-    placements.sort(key=lambda row: row[:2])
-    for cost, _, kinds in placements:
-        placed = dict(zip(names, kinds))
-        if not any(test.is_allowed(placed) for test in tests):
-            return "".join([f"fenced {cost}\n", *[f"site {name} {kind}\n" for name, kind in placed.items() if kind]])
-    return None
+def is_enough(kind, other):
+    return model.PAIRS[other] <= model.PAIRS[kind]
 
 
-def compare_none(run, name, tests, files, found):
-    """Is the file the first that allows its outcome with rw,rw at every site, and does `order` take its execution?"""
-    top = dict.fromkeys(NAMES, "rw,rw")
-    first = next(number for number, test in enumerate(tests) if test.is_allowed(top))
-    none, file, witness = [*found.out.split("\n"), "", "", ""][:3]
-    run.expect(f"the status of {name}", 1, found.status)
-    if run.expect(f"the first lines of {name}", ["none", files[first]], [none, file]):
-        moved = written(f"{run.folder}/moved", json.dumps(tests[first].moved(json.loads(witness))).encode())
-        fenced = written(f"{run.folder}/top", tests[first].fenced(top).encode())
-        run.expect(f"the execution of {name}", YES, rvfence("order", fenced, moved))
+def compare_execution(run, name, question, lines):
+    """Is the last of these lines an execution of the first test that has one?"""
+    file, words = question.first_allowed()
+    execution = written(f"{run.folder}/execution", lines.pop() if lines else "")
+    run.expect(f"the execution of {name}", YES, rvfence("order", file, execution, *words, *question.options))
+    return file
 
 
-def compare_certificates(run, name, files, found, certificates):
+def compare_answer(run, name, question, placed, found):
+    """Is this what is found, and can it be placed?"""
+    if placed is None:
+        lines = found.out.splitlines()
+        file = compare_execution(run, name, question, lines)
+        run.expect(name, (["none", file][:2 - question.is_alone], 1), (lines, found.status))
+    elif not run.expect(name, Said(question.lines(placed), "", 0), found):
+        print(*[test.labelled() for test in question.tests], question.prices, question.weights, sep="\n")
+    for test, file, words in question.placings(placed) if placed else ():
+        fenced = written(f"{run.folder}/fenced", test.fenced(placed))
+        run.expect(f"place of {name}", rvfence("place", fenced), rvfence("place", file, *words, *question.options))
+
+
+def compare_certificates(run, name, question, files, found, certificates):
     """Do both checkers accept the certificate of this answer, and say the same of others that are made of it?"""
-    path, judge = f"{run.folder}/certificate", SitesJudge(files[:-1], files[-1])
-    run.expect(f"{name}, with --cert", found, rvfence("solve", *files, "--sites", "--cert", path))
+    path, judge = f"{run.folder}/certificate", SitesJudge(files[:-1], files[-1], question.is_free)
+    said = rvfence("solve", *files, *question.options, "-q", "--cert", path)
+    if not run.expect(f"{name}, with --cert", found, said) or said.status == 2:
+        return
     wanted = Said(f"yes\n{found.out}", "", 0)
-    run.expect(f"check of {name}", wanted, rvfence("check", *files, path, "--sites"))
+    run.expect(f"check of {name}", wanted, rvfence("check", *files, path, *question.options))
     run.expect(f"check_certificate.py of {name}", wanted, judge.verdict(read(path)))
     certificates.append(json.loads(read(path)))
     for number in range(MANGLED):
@@ -144,27 +214,94 @@ def compare_certificates(run, name, files, found, certificates):
         made = mangled(certificates[-1], dice.choice(certificates), dice)
         wanted = judge.verdict(json.dumps(made).encode())
         run.kinds[" ".join(wanted.out.split("\n")[0].split()[:2]) or "fault"] += 1
-        said = rvfence("check", *files, written(path, json.dumps(made).encode()), "--sites")
+        said = rvfence("check", *files, written(path, json.dumps(made)), *question.options)
         if not run.expect(f"certificate {number} of {name}", wanted, said):
             print(json.dumps(made))
 
 
+class Audited:
+    """A question with FENCEs behind its labels, most as the answer has them, and what is to be said of them."""
+
+    def __init__(self, question, best):
+        self.question, self.best, self.texts, chance = question, best, {}, question.chance
+        some, most = [None, *model.KINDS], chance.choice([0, 0, 0.2])       # of the copies aren't like others
+        usual = {it: best[it] if best and chance.random() < 0.8 else chance.choice(some) for it in question.names}
+        self.kinds = {name: collections.defaultdict(dict) for name in question.names}       # with rows of copies
+        for test, file in dict(zip(question.tests, question.files)).items():
+            kinds = {}
+            for (hart, at), name in test.places.items():
+                row = len(test.above) + 1 + at + sum(bool(kinds[it]) for it in kinds if it[0] == hart)
+                kind = usual[name] if chance.random() >= most else chance.choice(some)
+                if test.columns[hart][at].startswith("fence"):              # this would be the copy's
+                    kind = kind or "rw,rw"
+                kinds[hart, at], self.kinds[name][kind][f"{file}:{row}"] = kind, None
+            self.texts[file] = test.labelled(kinds)
+
+    def wanted(self):
+        """The lines that are to be printed, but for an execution, and the status."""
+        best, names, cost = self.best, self.question.names, self.question.cost
+        is_same = all(len(kinds) == 1 for kinds in self.kinds.values())
+        own = {name: next(iter(kinds)) for name, kinds in self.kinds.items()} if is_same else None
+        verdicts = {verdict_of(text.encode(), ONES)[0] for text in self.texts.values()}
+        verdict = next(it for it in ["allowed", "forbidden", "vacuous"] if it in verdicts)
+        first = f"{verdict} as written, {'copies differ' if own is None else cost(own)}; "
+        if best is None:
+            return [f"{first}no fences rule it out", self.question.first_allowed()[0]], 1
+        first += f"cheapest {cost(best)}"
+        if verdict == "forbidden" and own is not None and cost(own) <= cost(best):
+            best = own
+        lines, wide = [], max(map(len, names), default=0)
+        for name, kind in itertools.product(names, [None, *model.KINDS]):
+            if kind in self.kinds[name] and (kind or best[name]):
+                where = " ".join(self.kinds[name][kind])
+                lines.append(f"{name:{wide}}  {kind or 'none':5}  {said_of(kind, best[name]):16} {where}")
+        return [first, *lines], STATUS.get(verdict, int(not all("  needed  " in line for line in lines)))
+
+
+def said_of(kind, best):
+    """What is said of a FENCE of this kind, or of none, where this is advised."""
+    if kind is None or best is None:
+        return "not needed" if kind else f"{best} is missing"
+    return "needed" if kind == best else f"{best} {'is enough' if is_enough(kind, best) else 'instead'}"
+
+
+def compare_audit(run, name, audited, prices):
+    """Is that said of FENCEs behind labels which is wanted?"""
+    for file, text in audited.texts.items():
+        written(file, text)
+    said, (lines, status) = rvfence("audit", *audited.texts, prices, "--sites", "-q"), audited.wanted()
+    found = said.out.splitlines()
+    if audited.best is None:
+        compare_execution(run, f"{name}, audited", audited.question, found)
+    run.kinds.update(re.findall("not needed|needed|is enough|instead|is missing", "\n".join(lines)))
+    if not run.expect(f"audit of {name}", (lines, "", status), (found, said.err, said.status)):
+        print(*audited.texts.values(), read(prices), sep="\n")
+
+
 def compare(run, number, certificates):
     """Compares the answers to the question of this number."""
-    tests, names, prices = made(number)
-    files = [written(f"{run.folder}/{k}", test.labelled().encode()) for k, test in enumerate(tests)]
-    listed = written(f"{run.folder}/prices", json.dumps(prices).encode())
-    found, wanted = rvfence("solve", *files, listed, "--sites"), answer_of(tests, names, prices)
-    name = f"question {number}"
-    run.kinds["none" if wanted is None else "fenced"] += 1
-    if wanted is None:
-        compare_none(run, name, tests, files, found)
-    elif not run.expect(name, (wanted, "", 0), (found.out, found.err, found.status)):
-        print(*[test.labelled() for test in tests], prices, sep="\n")
-    compare_certificates(run, name, [*files, listed], found, certificates)
+    question, name = Question(number, run.folder), f"question {number}"
+    files, placed = question.write(run.folder), question.answer()
+    found = rvfence("solve", *files, *question.options, "-q")
+    run.kinds["none" if placed is None else "fenced"] += 1
+    compare_answer(run, name, question, placed, found)
+    compare_certificates(run, name, question, files, found, certificates)
+    if not question.is_free:
+        compare_audit(run, name, Audited(question, placed), files[-1])
+
+
+def compare_alone(run, path):
+    """Is the answer of a test, which has no labels that name sites, that of its slots?"""
+    for prices in [LINUX, f"{run.folder}/weights"]:
+        wanted = rvfence("solve", path, prices, "-q")
+        run.expect(f"{path} at {prices} as sites", wanted, rvfence("solve", path, prices, "-q", "--sites", "--free"))
 
 
 def check(run):
     certificates = []
     for number in run.numbers():
         compare(run, number, certificates)
+    weights = {"weights": {f"P{hart}:{at}": (hart + at) % 4 for hart in range(4) for at in range(10)}}
+    written(f"{run.folder}/weights", json.dumps({**json.loads(read(LINUX)), **weights}))
+    paths = [path for folder in ["", "idioms/", "tests/"] for path in sorted(glob.glob(f"{EXAMPLES}/{folder}*.litmus"))]
+    side_by_side(lambda path: compare_alone(run, path), paths)

@@ -1,5 +1,5 @@
 -- What a command answers, of the files that it has read. What a file gives when it is read no definition says.
-use Rattle.std.specs.Prelude.{◌≡◌, ℕ, Bool, true, false, List, [], ◌∷◌, ◌++◌, Option, None, IfSome, IsSome, is_some, map, option_map, string_bytes, if◌then◌else◌}
+use Rattle.std.specs.Prelude.{◌≡◌, ℕ, Bool, true, false, List, [], ◌∷◌, ◌++◌, ◌||◌, Option, None, IfSome, IsSome, is_some, map, option_map, string_bytes, if◌then◌else◌}
 use Rattle.fs_app_io.specs.declared.source.Source.{Source}
 use Rattle.fs_app_io.specs.declared.status.Output.{Output}
 use Rattle.fs_app_io.specs.declared.status.Status.{Status}
@@ -13,11 +13,14 @@ use Rattle.fs_app_solve.specs.Solve.{IsSolved}
 use Rattle.fs_app_solve_text.specs.Inserted.{IsInserted}
 use Rattle.fs_app_sites.specs.Solved.{IsSolved as IsSitesSolved}
 use Rattle.fs_app_sites.specs.declared.content.File.{File}
+use Rattle.fs_app_sites.specs.declared.content.Tests.{Tests}
+use Rattle.fs_app_sites_audit.specs.Audited.{IsAudited as IsSitesAudited}
 use Rattle.fs_app_sites_check.specs.Checked.{IsSitesChecked}
 use Rattle.fs_app_audit.specs.Audit.{IsAnew, IsAudited, IsWritten, IsFirstAnewFault, IsFirstAuditFault, IsFirstWrittenFault}
 use Rattle.fs_app_audit.specs.Blocks.{AreBlocks, are_named, blocks_status, blocks_text}
 use Rattle.fs_app_audit.specs.declared.blocks.Block.{Block}
 use Rattle.fs_app_audit_json.specs.Files.{AreObjectBlocks, objects_text}
+use Rattle.fs_app_audit_why.specs.Why.{IsAuditWhy}
 use Rattle.fs_kinds.specs.declared.fault.Fault.{Fault}
 use Rattle.fs_kinds.specs.declared.placement.Entry.{Entry}
 use Rattle.fs_kinds.specs.PriceTable.{PriceTable}
@@ -38,6 +41,7 @@ use Rattle.fs_app_command_line.specs.declared.command.Order.{Order}
 use Rattle.fs_app_command_line.specs.declared.command.Solve.{Solve}
 use Rattle.fs_app_command_line.specs.declared.command.Sites.{Sites}
 use Rattle.fs_app_command_line.specs.declared.command.Audit.{Audit}
+use Rattle.fs_app_command_line.specs.declared.command.AuditSites.{AuditSites}
 use Rattle.fs_app_command_line.specs.declared.command.Check.{Check}
 use Rattle.fs_app_command_line.specs.declared.command.CheckSites.{CheckSites}
 use Rattle.fs_app_files.specs.declared.papers.Papers.{Papers}
@@ -54,28 +58,28 @@ abbrev pub in_form : (is_json : Bool) (lines object : List ℕ) → List ℕ
 in_form is_json lines object = if is_json then object else lines
 
 -- the test with fences in slots, or with `--sites` at all copies of sites
-abbrev pub IsPlacedText : (has_sites : Bool) (test : List ℕ) (prices : Option (List ℕ)) (words : List (List ℕ)) (text : List ℕ) → Type 0
-IsPlacedText true test prices words text = IsSitesText test prices words text
-IsPlacedText false test prices words text = IsFencedText test prices words text
+abbrev pub IsPlacedText : (has_sites is_free : Bool) (test : List ℕ) (prices : Option (List ℕ)) (words : List (List ℕ)) (text : List ℕ) → Type 0
+IsPlacedText true is_free test prices words text = IsSitesText is_free test prices words text
+IsPlacedText false is_free test prices words text = IsFencedText test prices words text
 
-abbrev pub IsPlaceFault : (has_sites : Bool) (test : List ℕ) (prices : Option (List ℕ)) (words : List (List ℕ)) → Fault → Type 0
-IsPlaceFault true test prices words fault = IsFirstSitesPlaceFault test prices words fault
-IsPlaceFault false test prices words fault = IsFirstPlaceFault test prices words fault
+abbrev pub IsPlaceFault : (has_sites is_free : Bool) (test : List ℕ) (prices : Option (List ℕ)) (words : List (List ℕ)) → Fault → Type 0
+IsPlaceFault true is_free test prices words fault = IsFirstSitesPlaceFault is_free test prices words fault
+IsPlaceFault false is_free test prices words fault = IsFirstPlaceFault test prices words fault
 
 -- and the verdict on a witness in it
-abbrev pub IsOrderText : (has_sites : Bool) (test witness : List ℕ) (words : List (List ℕ)) (text : List ℕ) (status : Status) → Type 0
-IsOrderText true test witness words text status = IsSitesOrderAnswer test witness words text status
-IsOrderText false test witness words text status = IsOrderAnswer test witness words text status
+abbrev pub IsOrderText : (has_sites is_free : Bool) (test witness : List ℕ) (words : List (List ℕ)) (text : List ℕ) (status : Status) → Type 0
+IsOrderText true is_free test witness words text status = IsSitesOrderAnswer is_free test witness words text status
+IsOrderText false is_free test witness words text status = IsOrderAnswer test witness words text status
 
-abbrev pub IsOrderFault : (has_sites : Bool) (test witness : List ℕ) (words : List (List ℕ)) → Fault → Type 0
-IsOrderFault true test witness words fault = IsFirstSitesOrderFault test witness words fault
-IsOrderFault false test witness words fault = IsFirstOrderFault test witness words fault
+abbrev pub IsOrderFault : (has_sites is_free : Bool) (test witness : List ℕ) (words : List (List ℕ)) → Fault → Type 0
+IsOrderFault true is_free test witness words fault = IsFirstSitesOrderFault is_free test witness words fault
+IsOrderFault false is_free test witness words fault = IsFirstOrderFault test witness words fault
 
 -- what `place` prints of the test of this name, with the prices of this name
 pub record AnswersPlace (place : Place) (papers : Papers) (output : Output) : Type 0 where
   pub test_name : papers.test.name.now ≡ place.test.now
   pub prices_name : IfSome place.prices (λ name. papers.prices.name.now ≡ name.now)
-  pub text : IsPlacedText place.sites papers.test.bytes.items (offered place papers) (map string_bytes place.fences.items) (string_bytes output.text)
+  pub text : IsPlacedText place.sites place.free papers.test.bytes.items (offered place papers) (map string_bytes place.fences.items) (string_bytes output.text)
   pub ends : output.status ≡ Success
 
 pub record AnswersOrder (order : Order) (papers : Papers) (output : Output) : Type 0 where
@@ -83,7 +87,7 @@ pub record AnswersOrder (order : Order) (papers : Papers) (output : Output) : Ty
   pub witness_name : papers.evidence.name.now ≡ order.witness.now
   pub lines : List ℕ
   pub below : List ℕ
-  pub answer : IsOrderText order.sites papers.test.bytes.items papers.evidence.bytes.items (map string_bytes order.fences.items) lines output.status
+  pub answer : IsOrderText order.sites order.free papers.test.bytes.items papers.evidence.bytes.items (map string_bytes order.fences.items) lines output.status
   pub told : IsTold order.why (IsOrderWhy papers.test.bytes.items papers.evidence.bytes.items (map string_bytes order.fences.items)) below
   pub text : string_bytes output.text ≡ lines ++ below
 
@@ -127,8 +131,8 @@ pub record AnswersSolve (solve : Solve) (papers : Papers) (output : Output) : Ty
 
 -- the answer to some files and the prices that were read; or no answer, since a file has a fault
 pub data AnswersSites (sites : Sites) (papers : Papers) (output : Output) : Type 0 where
-  answered : (files : List File) → papers.prices.name.now ≡ sites.prices.now
-      → IsSitesSolved sites.json files papers.prices.bytes.items (string_bytes output.text) output.status
+  answered : (tests : Tests) → tests.is_free ≡ sites.free → papers.prices.name.now ≡ sites.prices.now
+      → IsSitesSolved sites.json tests papers.prices.bytes.items (string_bytes output.text) output.status
       → AnswersSites sites papers output
   refused : output.status ≡ Failure → AnswersSites sites papers output
 
@@ -145,11 +149,20 @@ IsAuditFault true is_anew test prices limit fault = IsFirstWrittenFault test pri
 IsAuditFault false true test prices limit fault = IsFirstAnewFault test prices limit fault
 IsAuditFault false false test prices limit fault = IsFirstAuditFault test prices limit fault
 
--- what `audit` prints of one file
+-- what `audit` prints of one file, and what is told below it
 pub record AnswersOneAudit (audit : Audit) (name : List ℕ) (papers : Papers) (output : Output) : Type 0 where
   pub test_name : papers.test.name.now ≡ name
   pub prices_name : papers.prices.name.now ≡ audit.prices.now
-  pub answer : IsAuditText audit.write audit.anew papers.test.bytes.items papers.prices.bytes.items (string_bytes output.text) output.status
+  pub lines : List ℕ
+  pub below : List ℕ
+  pub answer : IsAuditText audit.write audit.anew papers.test.bytes.items papers.prices.bytes.items lines output.status
+  pub told : IsToldBy (telling_of audit.why)
+      (λ telling. IsAuditWhy telling papers.test.bytes.items papers.prices.bytes.items) below
+  pub text : string_bytes output.text ≡ lines ++ below
+
+-- Is a file to be written, or is something to be told of it? Then it is the only one.
+abbrev pub wants_one : Audit → Bool
+wants_one audit = audit.write || is_some (telling_of audit.why)
 
 -- and of these files, in their order: each block has the name of its file, and is that of some bytes at the prices that
 -- were read, or of a fault
@@ -170,17 +183,17 @@ pub record AnswersObjects (audit : Audit) (files : List Source) (papers : Papers
   pub text : string_bytes output.text ≡ objects_text blocks
   pub ends : output.status ≡ blocks_status blocks
 
--- Of the only file that the words name, or of several; nothing where a file is mended, or where a test is to be written
--- and there are several. Which files folders and lists stand for no definition says.
+-- Of the only file that the words name, or of several; nothing where a file is mended, or where one is wanted and there
+-- are several. Which files folders and lists stand for no definition says.
 pub data AnswersAudit (audit : Audit) (papers : Papers) (output : Output) : Type 0 where
   alone : (name : List ℕ) → map string_bytes audit.files.items ≡ name ∷ [] → AnswersOneAudit audit name papers output
       → AnswersAudit audit papers output
   objects : {files : List Source} → audit.json ≡ true → AnswersObjects audit files papers output
       → AnswersAudit audit papers output
-  several : {files : List Source} → audit.write ≡ false → AnswersBlocks audit files papers output
+  several : {files : List Source} → wants_one audit ≡ false → AnswersBlocks audit files papers output
       → AnswersAudit audit papers output
   mended : audit.in_place ≡ true → string_bytes output.text ≡ [] → AnswersAudit audit papers output
-  too_many : audit.write ≡ true → string_bytes output.text ≡ [] → output.status ≡ Failure
+  too_many : wants_one audit ≡ true → string_bytes output.text ≡ [] → output.status ≡ Failure
       → AnswersAudit audit papers output
 
 pub record AnswersCheck (check : Check) (papers : Papers) (output : Output) : Type 0 where
@@ -199,12 +212,20 @@ pub record AnswersCheck (check : Check) (papers : Papers) (output : Output) : Ty
 -- the verdict on the certificate that was read, for some files and the prices that were read; or none, since a file has
 -- a fault
 pub data AnswersCheckSites (check : CheckSites) (papers : Papers) (output : Output) : Type 0 where
-  checked : (files : List File) (lines object : List ℕ) → papers.prices.name.now ≡ check.prices.now
-      → papers.evidence.name.now ≡ check.certificate.now
-      → IsSitesChecked files papers.prices.bytes.items papers.evidence.bytes.items lines object output.status
+  checked : (tests : Tests) (lines object : List ℕ) → tests.is_free ≡ check.free
+      → papers.prices.name.now ≡ check.prices.now → papers.evidence.name.now ≡ check.certificate.now
+      → IsSitesChecked tests papers.prices.bytes.items papers.evidence.bytes.items lines object output.status
       → string_bytes output.text ≡ in_form check.json lines object
       → AnswersCheckSites check papers output
   refused : output.status ≡ Failure → AnswersCheckSites check papers output
+
+-- what is said of the FENCEs at the sites of some files at the prices that were read; or nothing, since a file has a
+-- fault
+pub data AnswersAuditSites (audit : AuditSites) (papers : Papers) (output : Output) : Type 0 where
+  audited : (files : List File) → papers.prices.name.now ≡ audit.prices.now
+      → IsSitesAudited audit.json files papers.prices.bytes.items (string_bytes output.text) output.status
+      → AnswersAuditSites audit papers output
+  refused : output.status ≡ Failure → AnswersAuditSites audit papers output
 
 -- The text, but for what is told below it, and the status are those of the same lines. Each says what is true of some
 -- bytes, or of a file that wasn't read; what is told is told of these bytes.
@@ -235,6 +256,7 @@ Answers (task.Order order) papers output = AnswersOrder order papers output
 Answers (task.Solve solve) papers output = AnswersSolve solve papers output
 Answers (task.Sites sites) papers output = AnswersSites sites papers output
 Answers (task.Audit audit) papers output = AnswersAudit audit papers output
+Answers (task.AuditSites audit) papers output = AnswersAuditSites audit papers output
 Answers (task.Check check) papers output = AnswersCheck check papers output
 Answers (task.CheckSites check) papers output = AnswersCheckSites check papers output
 Answers (task.Completions shell) papers output = output.status ≡ Success

@@ -15,11 +15,12 @@ ghost use Rattle.fs_app.specs.Answers.{AnswersTest, AnswersPlace, IsOrderFault, 
 ghost use Rattle.fs_app.specs.Answers.{AnswersLines, AnswersOrder, AnswersSolve, AnswersCheck};
 ghost use Rattle.fs_app.specs.Telling.{is_yes, telling_of};
 
+use crate::audit_sites::answer_audit_sites;
 use crate::audits::answer_audit;
 use crate::failure::Failure;
 use crate::pictures::{draw_certified, draw_found, draw_ordered, draw_tests};
 use crate::progress::Progress;
-use crate::sites::{answer_check_sites, answer_sites};
+use crate::sites::{answer_check_sites, answer_sites, failure_of_words};
 use crate::states::{answer_log, answer_states};
 use crate::telling::{answer_why, is_yes, order_why, solve_why, telling_of, tests_why, with_below};
 use crate::write::fenced_file;
@@ -71,7 +72,12 @@ impl Voice {
         let notes = !request.quiet;
         let judges = matches!(
             request.task,
-            Task::Test(_) | Task::States(_) | Task::Audit(_) | Task::Sites(_) | Task::CheckSites(_)
+            Task::Test(_)
+                | Task::States(_)
+                | Task::Audit(_)
+                | Task::AuditSites(_)
+                | Task::Sites(_)
+                | Task::CheckSites(_)
         );
         Voice {
             notes,
@@ -128,8 +134,29 @@ fn status_of_run<
             if request.task.is_json() {
                 print_fault(rt, fault, &papers)?;
             }
-            Err(failure_of(rt.alloc(), fault, voice, &papers))
+            Err(failure_of_task(rt.alloc(), &request.task, fault, voice, &papers))
         }
+    }
+}
+
+/// The failure of a run that a fault ended. Of words of sites messages know nothing but which sites there are.
+fn failure_of_task(
+    alloc: Global,
+    task: &Task<'_>,
+    fault: Fault,
+    voice: Voice,
+    papers: &Papers<'_>,
+) -> Failure {
+    let frees = match task {
+        Task::Place(place) if place.sites => Some(place.free),
+        Task::Order(order) if order.sites => Some(order.free),
+        _ => None,
+    };
+    match frees {
+        Some(is_free) if fault == Fault::BadFence && voice.explains => {
+            failure_of_words(alloc, is_free, papers)
+        }
+        _ => failure_of(alloc, fault, voice, papers),
     }
 }
 
@@ -250,6 +277,7 @@ fn answer<'a, R: Files + Input + Eprint + AllocGlobal + Clock + Threads + Wait +
         Task::Solve(solve) => answer_solve(rt, solve, voice, papers),
         Task::Sites(sites) => answer_sites(rt, sites, voice, papers),
         Task::Audit(audit) => answer_audit(rt, audit, voice, papers),
+        Task::AuditSites(audit) => answer_audit_sites(rt, audit, voice, papers),
         Task::Check(check) => answer_check(rt, check, papers),
         Task::CheckSites(check) => answer_check_sites(rt, check, voice, papers),
         Task::Completions(shell) => Ok(Output {
@@ -429,36 +457,29 @@ fn offered<'p>(place: &Place<'_>, papers: &'p Papers<'_>) -> Option<&'p [u8]>
 
 /// The test that was read, with the fences, and with the prices where some were to be read.
 fn placed(alloc: Global, place: &Place<'_>, papers: &Papers<'_>) -> Result<Output, Fault>
-    ensures text { IfOk result (λ output. IsPlacedText place.now.sites papers.now.test.bytes.items
+    ensures text { IfOk result (λ output. IsPlacedText place.now.sites place.now.free papers.now.test.bytes.items
         (offered place.now papers.now) (map string_bytes place.now.fences.items) (string_bytes output.text)) }
     ensures status { IfOk result (λ output. output.status ≡ Success) }
 {
-    let prices = offered(place, papers);
-    fenced(
-        alloc,
-        place.sites,
-        &papers.test.bytes,
-        prices,
-        &place.fences,
-    )
+    fenced(alloc, place, &papers.test.bytes, offered(place, papers))
 }
 
-/// The test with the fences of slots, or of sites.
+/// The test with the fences, of slots or of sites.
 fn fenced(
     alloc: Global,
-    has_sites: bool,
+    place: &Place<'_>,
     test: &[u8],
     prices: Option<&[u8]>,
-    words: &[String],
 ) -> Result<Output, Fault>
-    ensures text { IfOk result (λ output. IsPlacedText has_sites test.now (option_copied prices.entry)
-        (map string_bytes words.now) (string_bytes output.text)) }
+    ensures text { IfOk result (λ output. IsPlacedText place.now.sites place.now.free test.now
+        (option_copied prices.entry) (map string_bytes place.now.fences.items) (string_bytes output.text)) }
     ensures status { IfOk result (λ output. output.status ≡ Success) }
-    ensures fault { IfErr result (IsPlaceFault has_sites test.now (option_copied prices.entry)
-        (map string_bytes words.now)) }
+    ensures fault { IfErr result (IsPlaceFault place.now.sites place.now.free test.now (option_copied prices.entry)
+        (map string_bytes place.now.fences.items)) }
 {
-    if has_sites {
-        run_place_sites(alloc, test, prices, words)
+    let words = &place.fences;
+    if place.sites {
+        run_place_sites(alloc, test, prices, words, place.free)
     } else {
         run_place(alloc, test, prices, words)
     }
@@ -476,7 +497,7 @@ fn answer_order<'a, R: Files + Input + AllocGlobal>(
     }
     papers.read_test(rt, order.test)?;
     papers.read_evidence(rt, order.witness, INPUT_LIMIT)?;
-    let verdict = ordered(rt.alloc(), order.sites, papers, &order.fences)?;
+    let verdict = ordered(rt.alloc(), order, papers)?;
     let below = order_why(rt.alloc(), order.why, papers, &order.fences)?;
     if let Some(folder) = order.dot {
         draw_ordered(rt, folder, papers)?;
@@ -485,21 +506,18 @@ fn answer_order<'a, R: Files + Input + AllocGlobal>(
     Ok(output)
 }
 
-/// The verdict on the witness that was read, in the test with the fences of slots, or of sites.
-fn ordered(
-    alloc: Global,
-    has_sites: bool,
-    papers: &Papers<'_>,
-    words: &[String],
-) -> Result<Output, Fault>
-    ensures answer { IfOk result (λ output. IsOrderText has_sites papers.now.test.bytes.items
-        papers.now.evidence.bytes.items (map string_bytes words.now) (string_bytes output.text) output.status) }
-    ensures fault { IfErr result (IsOrderFault has_sites papers.now.test.bytes.items
-        papers.now.evidence.bytes.items (map string_bytes words.now)) }
+/// The verdict on the witness that was read, in the test with the same fences.
+fn ordered(alloc: Global, order: &Order<'_>, papers: &Papers<'_>) -> Result<Output, Fault>
+    ensures answer { IfOk result (λ output. IsOrderText order.now.sites order.now.free papers.now.test.bytes.items
+        papers.now.evidence.bytes.items (map string_bytes order.now.fences.items) (string_bytes output.text)
+        output.status) }
+    ensures fault { IfErr result (IsOrderFault order.now.sites order.now.free papers.now.test.bytes.items
+        papers.now.evidence.bytes.items (map string_bytes order.now.fences.items)) }
 {
     let (test, witness) = (&papers.test.bytes, &papers.evidence.bytes);
-    if has_sites {
-        run_order_sites(alloc, test, witness, words)
+    let words = &order.fences;
+    if order.sites {
+        run_order_sites(alloc, test, witness, words, order.free)
     } else {
         run_order(alloc, test, witness, words)
     }
