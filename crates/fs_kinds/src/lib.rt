@@ -20,6 +20,6 @@ pub use limits::{MOST_ACCESSES, MOST_DEPTH, MOST_HARTS, MOST_INSTRUCTIONS, MOST_
 pub use list::List;
 pub use place::read_place;
 pub use placement::{Entry, Placement};
-pub use prices::{Prices, read_prices};
+pub use prices::{Prices, read_prices, whole};
 pub use reason::{OperationName, Reason};
 pub use slot::{Slot, read_fence};

@@ -195,7 +195,7 @@ fn read_weight(name: &str, value: &Value) -> Result<(Slot, u32), Fault>
 }
 
 /// The whole number that the value is, where it is one from `least` to `most`.
-fn whole(value: &Value, least: u64, most: u64) -> Option<u32>
+pub fn whole(value: &Value, least: u64, most: u64) -> Option<u32>
     requires { most < 2 ^ 32 }
     ensures { result ≡ whole least most (view value.now) }
 {

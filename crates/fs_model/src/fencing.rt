@@ -11,8 +11,9 @@ use fs_instr::{Instr, Letters};
 use fs_kinds::{Kind, Placement, Slot};
 use std::alloc::{AllocError, Global};
 
-/// The codes with their fences, from hart 0 on. Labels move with what stands at them, and a label at a
-/// filled slot stands before its fence.
+/// The codes with their fences, which may stand before any instruction, from hart 0 on. Labels move with what stands at
+/// them, and a label at a filled slot stands before its fence. The error is want of memory. For each instruction linear
+/// in the placement.
 pub fn fenced_codes(
     alloc: Global,
     placement: &Placement,
@@ -99,7 +100,7 @@ const BOTH: Letters = Letters {
 };
 
 /// The FENCE of a kind.
-fn fence_of(kind: Kind) -> Instr
+pub fn fence_of(kind: Kind) -> Instr
     ensures { result ≡ fence_of kind }
 {
     let (before, after) = match kind {

@@ -21,6 +21,7 @@ mod test;
 mod words;
 
 pub use accesses::slots;
+pub use fencing::{fence_of, fenced_codes};
 pub use hart::Hart;
 pub use lists::{Code, Codes, Locations, Name, Registers, Starts};
 pub use moves::fences_move;
