@@ -230,3 +230,19 @@ def usage(text):
     """Ends the run, which was called with other words than it takes."""
     print(f"usage: {text}", file=sys.stderr)
     sys.exit(2)
+
+
+def kept(made, bare=str, look=lambda counts: None):
+    """The end of a script that makes files of the repository: `made` gives their texts by path. It writes them, or with
+    `--check` says whether they are so, but for what `bare` leaves out, and looks at more."""
+    counts, is_check = Counts(), sys.argv[1:] == ["--check"]
+    if sys.argv[1:] and not is_check:
+        usage(sys.modules["__main__"].__doc__)
+    for path, text in made().items():
+        if is_check:
+            counts.expect(f"{path}, as {sys.argv[0]} makes it", bare(text), bare(text_of(path)))
+        else:
+            written(path, text)
+    if is_check:
+        look(counts)
+    return counts.end() if is_check else 0
