@@ -13,7 +13,6 @@ from running import EXAMPLES, PRICE_LISTS, read
 LOCATIONS = {'x6': 'x', 'x8': 'y', 'x10': 'z'}                 # which register has whose address
 WORDS = {'x5': 1, 'x7': 2}
 ANNOTATIONS = [''] * 4 + ['.aq', '.rl', '.aqrl']
-FENCES = ['fence %s' % kind for kind in model.KINDS if kind != 'tso'] + ['fence.tso', 'fence']
 MOST_CANDIDATES = 300
 MOST_PLACEMENTS = 20000
 
@@ -23,6 +22,14 @@ def test_text(name, entries, harts, condition):
     rows = [" | ".join(row) + " ;" for row in itertools.zip_longest(*harts, fillvalue="")]
     header = " | ".join(f"P{hart}" for hart in range(len(harts))) + " ;"
     return "\n".join([f"RISCV {name}", "{", *entries, "}", header, *rows, condition, ""])
+
+
+def fence_of(kind):
+    """The FENCE of this kind; of None nothing."""
+    return 'fence.tso' if kind == 'tso' else f'fence {kind}' if kind else ''
+
+
+FENCES = [*map(fence_of, model.KINDS), 'fence']
 
 
 class Code:

@@ -88,6 +88,11 @@ def rvfence(*words, **options):
     return ran([program(), *words], **options)
 
 
+def verdict(path):
+    """What `test` says of a file, in a word."""
+    return [*rvfence("test", path, "-q").out.split(), "", ""][1]
+
+
 def encoded(text):
     """The bytes of a text; bytes stay as they are."""
     return text if isinstance(text, bytes) else text.encode("utf-8", "surrogateescape")
@@ -209,6 +214,25 @@ class Counts:
         """Prints the last line, and gives the exit status: 0 only where there was a check, and all passed."""
         print(f"{self.passed} passed, {self.failed} failed", flush=True)
         return 0 if self.passed and not self.failed else 1
+
+
+class Run(Counts):
+    """A run of a check: its counts, a folder of its own, its options, and how many there were of each kind."""
+
+    def __init__(self, folder, options):
+        super().__init__()
+        self.folder, self.options, self.kinds = folder, options, collections.Counter()
+
+    def numbers(self):
+        """The numbers of the made tests that are asked for: so many, from the first on."""
+        return range(self.options.first, self.options.first + self.options.count)
+
+    def path(self, name):
+        return f"{self.folder}/{name}"
+
+    def file(self, name, data):
+        """The path of a file in its folder, which gets these bytes or this text."""
+        return written(self.path(name), data)
 
 
 def shown(value):

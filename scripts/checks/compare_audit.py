@@ -16,13 +16,13 @@ import re
 
 import check_certificate as model
 import solve_reference as reference
-from litmus import FENCES, Maker
-from running import rvfence, text_of, written
+from litmus import FENCES, Maker, fence_of
+from running import rvfence, text_of, verdict
 from verdicts import verdict_of
 
 LABEL = "OUT:"
 EASED = "fence io,io"                                           # orders no memory
-STATUS = {"vacuous": 4, "allowed": 1}
+STATUS = {"vacuous": 4, "allowed": 1, "forbidden": 0}
 STAYS = "  (needed.*|not for memory)$"                            # a line by which a fence stays as it is
 DEVICES = ["fence i,r", "fence o,w", "fence iorw,iorw", "fence iorw,w", "fence io,io", "fence.i"]
 
@@ -59,9 +59,10 @@ class Columns:
         rows = [line.removesuffix(" ;").split(" | ") for line in lines[top:-1]]
         self.cells = [[Cell(cell.strip()) for cell in column if cell.strip()] for column in zip(*rows)]
 
-    def text(self):
+    def text(self, shown=str):
+        """The text, with each cell as `shown` prints it."""
         rows = itertools.zip_longest(*self.cells, fillvalue="")
-        return "\n".join([*self.above, *[" | ".join(map(str, row)) + " ;" for row in rows], self.condition, ""])
+        return "\n".join([*self.above, *[" | ".join(map(shown, row)) + " ;" for row in rows], self.condition, ""])
 
     def changed(self, change):
         """The columns with each cell as `change` has it, which may be nothing."""
@@ -76,6 +77,11 @@ class Columns:
     def eased(self):
         """With no fence that names devices and orders memory."""
         return self.changed(lambda cell: cell.saying(EASED) if cell.stays else cell)
+
+    def followed(self, lines):
+        """What the cells say in places for which these kinds or nothing is advised, by the cells."""
+        cells = [[cell for cell in column if cell.bare] for column in self.cells]
+        return {cells[hart][at]: fence_of(kind) for (hart, at), kind in lines.items()}
 
     def harts(self):
         codes, above = model.test_of(self.text().encode()).code, len(self.above)
@@ -106,21 +112,17 @@ def made(number):
 class Hart:
     """The code of a hart with its fences."""
 
-    def __init__(self, number, column, above, instructions):
-        self.number, self.cells = number, [cell for cell in column if cell.bare]
+    def __init__(self, number, column, above, code):
+        self.number, self.code, self.cells = number, code, [cell for cell in column if cell.bare]
         self.lines = [line for line, cell in enumerate(column, above + 1) if cell.bare]
-        labelled = [LABEL in (cell.label, str(last)) for last, cell in zip([Cell(""), *column], column) if cell.bare]
-        is_used = any(re.match("b(eq|ne) ", cell.bare) for cell in self.cells)
-        self.target = labelled.index(True) if True in labelled else len(self.cells)
-        self.is_reached = [has_label and is_used for has_label in labelled]         # by a branch
-        self.memory = [instruction.is_memory() for instruction in instructions]
-        self.branch = [instruction.form in ("branch", "jump") for instruction in instructions]
+        self.memory = [instruction.is_memory() for instruction in code]
         self.fences = [at for at, cell in enumerate(self.cells) if cell.kind is not None]
 
     def access_of(self, at):
         """The access that a FENCE stands at, or None."""
-        for other in range(at + 1, len(self.cells)):
-            if self.is_reached[other] or self.branch[other] and any(self.memory[self.target:]):
+        targets = {instruction.label for instruction in self.code}              # of branches
+        for other, label in [(it, self.code[it].label) for it in range(at + 1, len(self.code))]:
+            if other in targets or label is not None and any(self.memory[label:]):
                 return None
             if self.memory[other]:
                 return other
@@ -197,7 +199,7 @@ class Advised:
     def status(self, kind):
         is_right = self.best is not None and all(
             words in ("needed", "needed for memory", "not for memory") for _, _, words in self.lines())
-        return STATUS.get(kind, 0 if is_right else 1)
+        return STATUS[kind] or int(not is_right)
 
 
 def by_reference(columns, data):
@@ -267,9 +269,8 @@ class Places(reference.Problem):
         return f"not needed{about}" if advised is None else f"{advised} is enough{about}"
 
 
-def in_place(columns, prices, anew):
+def in_place(places, anew):
     """What is to be printed in place, and what is advised in each place of which a line says to change something."""
-    places = Places(columns, prices)
     best = dict(zip(places.cells, reference.solved(places)))
     costs = places.cost(places.written()), places.cost(best.values()), anew
     said = ["forbidden as written, %d; in place %d; anew %s" % costs]
@@ -277,19 +278,7 @@ def in_place(columns, prices, anew):
         for at in [at for at, cell in enumerate(hart.cells) if cell.letters]:
             said.append(hart.line(at, places.words(hart, at, best.get((hart.number, at)))))
     changed = {place: kind for place, kind in best.items() if kind != places.cells[place].kind}
-    is_right = all(re.search(STAYS, line) for line in said[1:])
-    return (said, 0 if is_right else 1), changed
-
-
-def followed(columns, lines):
-    """The columns where these places have what is advised there; what goes leaves its label."""
-    cells = [[cell for cell in column if cell.bare] for column in columns.cells]
-    fences = {cells[hart][at]: fence_of(kind) if kind else "" for (hart, at), kind in lines.items()}
-    return columns.changed(lambda cell: cell.saying(fences[cell]) if cell in fences else cell)
-
-
-def fence_of(kind):
-    return "fence.tso" if kind == "tso" else f"fence {kind}"
+    return (said, int(not all(re.search(STAYS, line) for line in said[1:]))), changed
 
 
 def fences_of(text):
@@ -316,17 +305,15 @@ def check_mended(run, name, files, columns, kind, mended):
         run.expect(f"{name}: nothing is written", "", said.out)
         return
     run.expect(f"{name}: the written fences", mended_fences(columns, mended.placed), fences_of(said.out))
-    file = written(files[0].replace("test.litmus", "mended.litmus"), said.out)
-    verdict = rvfence("test", file).out.split()
-    wanted = "vacuous" if kind == "vacuous" else "forbidden"
-    run.expect(f"{name}: the written test", wanted, verdict[1] if len(verdict) > 1 else "")
+    file, wanted = run.file("mended.litmus", said.out), "vacuous" if kind == "vacuous" else "forbidden"
+    run.expect(f"{name}: the written test", wanted, verdict(file))
     again = rvfence("audit", file, files[1], "--write")
-    run.expect(f"{name}: written again", (said.out, STATUS.get(wanted, 0)), (again.out, again.status))
+    run.expect(f"{name}: written again", (said.out, STATUS[wanted]), (again.out, again.status))
     if not any(cell.stays for column in columns.cells for cell in column):
         again = rvfence("audit", file, files[1], "--anew")
         first = f"{wanted} as written, {mended.best_cost}; cheapest {mended.best_cost}"
         run.expect(f"{name}: the audit of it", first, again.out.split("\n")[0])
-        run.expect(f"{name}: its status", STATUS.get(wanted, 0), again.status)
+        run.expect(f"{name}: its status", STATUS[wanted], again.status)
 
 
 def compare(run, name, wanted, files, text, *words):
@@ -347,57 +334,53 @@ def check_followed(run, name, files, columns, changed, said):
     sets = [[place] for place in places] + [places] * (len(places) > 1)
     sets += [chance.sample(places, chance.randint(2, len(places) - 1)) for _ in range(3) if len(places) > 2]
     for chosen in sets:
-        text = followed(columns, {place: changed[place] for place in chosen})
-        file = written(files[0].replace("test.litmus", "followed.litmus"), text.text())
-        verdict = rvfence("test", file).out.split()
-        run.expect(f"{name}: {chosen} followed", "forbidden", verdict[1] if len(verdict) > 1 else "")
+        fences = columns.followed({place: changed[place] for place in chosen})
+        text = columns.changed(lambda cell: cell.saying(fences.get(cell, cell.bare))).text()
+        file = run.file("followed.litmus", text)
+        run.expect(f"{name}: {chosen} followed", "forbidden", verdict(file))
         if len(chosen) > 1 or len(places) == 1:
             again = rvfence("audit", "-q", file, files[1])
             left = [words for place, words in zip(places, left_over(said)) if place not in chosen]
             run.expect(f"{name}: {chosen} audited again", left, left_over(again.out.splitlines()[1:]))
 
 
-def with_fences(columns, changed):
-    """The text in which fences have become what is advised, with blanks behind, but those that name devices."""
-    cells = [[cell for cell in column if cell.bare] for column in columns.cells]
-    fences = {cells[hart][at]: fence_of(kind) if kind else "" for (hart, at), kind in changed.items()}
+def check_written(run, name, files, columns, changed):
+    """Checks what `--write` prints of a test that is forbidden as it is written, and what `-i` leaves: fences have
+    become what is advised, with blanks behind, but for those that name devices."""
+    fences = columns.followed(changed)
 
     def shown(cell):
         if not cell or cell.stays or cell not in fences:
             return str(cell)
         return cell.label + " " * len(cell.label[:1]) + fences[cell].ljust(len(cell.bare))
 
-    rows = [" | ".join(map(shown, row)) + " ;" for row in itertools.zip_longest(*columns.cells, fillvalue="")]
-    return "\n".join([*columns.above, *rows, columns.condition, ""])
-
-
-def check_written(run, name, files, columns, changed):
-    """Checks what `--write` prints of a test that is forbidden as it is written, and what `-i` leaves."""
-    text = with_fences(columns, changed)
+    text = columns.text(shown)
     said = rvfence("audit", "-q", *files, "--write")
     run.expect(f"{name}: written in place", (text, int(text != columns.text())), (said.out, said.status))
-    file = written(files[0].replace("test.litmus", "mended.litmus"), columns.text())
+    file = run.file("mended.litmus", columns.text())
     said = rvfence("audit", "-q", file, files[1], "-i")
     run.expect(f"{name}: mended in place", (text, "", 0), (text_of(file), said.out, said.status))
 
 
 def check_in_place(run, name, files, columns, kind, prices, wanted):
     """Compares what is printed in place; `wanted` is what is to be printed with `--anew`."""
-    text = columns.text() + prices.decode()
-    if kind == "allowed":
-        compare(run, f"{name} in place", wanted, files, text)
-    elif kind == "vacuous":
-        places = Places(columns, model.prices_of(prices))
+    changed = None
+    if kind != "allowed":
+        places, anew = Places(columns, model.prices_of(prices)), wanted[0][0].rsplit(" ", 1)[-1]
         why = rvfence("test", files[0]).out.splitlines()[0].split("vacuous    ", 1)[-1]
-        line = f"vacuous as written, {places.cost(places.written())}; {why}"
-        compare(run, f"{name} in place", ([line], STATUS[kind]), files, text)
-    else:
-        anew = wanted[0][0].rsplit(" ", 1)[-1]
-        said, changed = in_place(columns, model.prices_of(prices), anew)
-        compare(run, f"{name} in place", said, files, text)
-        run.kinds.update("in place: " + re.sub("^[rwtso]+,?[rw]* ", "K ", line[28:]) for line in said[0][1:])
-        check_followed(run, name, files, columns, changed, said[0][1:])
+        wanted = [f"vacuous as written, {places.cost(places.written())}; {why}"], STATUS["vacuous"]
+        if kind == "forbidden":
+            wanted, changed = in_place(places, anew)
+    compare(run, f"{name} in place", wanted, files, columns.text() + prices.decode())
+    if kind == "forbidden":
+        count(run, "in place: ", wanted[0][1:])
+        check_followed(run, name, files, columns, changed, wanted[0][1:])
         check_written(run, name, files, columns, changed)
+
+
+def count(run, before, lines):
+    """Counts lines by what they say."""
+    run.kinds.update(before + re.sub("^[rwtso]+,?[rw]* ", "K ", line[28:]) for line in lines)
 
 
 def check(run):
@@ -405,11 +388,11 @@ def check(run):
         columns, prices = made(number)
         name = f"made test {number}"
         kind, wanted, mended = by_reference(columns, prices)
-        files = [written(run.path("test.litmus"), columns.text()), written(run.path("prices.json"), prices)]
+        files = [run.file("test.litmus", columns.text()), run.file("prices.json", prices)]
         compare(run, name, wanted, files, columns.text() + prices.decode(), "--anew")
         if kind is not None:
             run.kinds[kind] += 1
-            run.kinds.update(re.sub("^[rwtso]+,?[rw]* ", "K ", line[28:]) for line in wanted[0][1:])
+            count(run, "", wanted[0][1:])
             if kind != "forbidden":
                 check_mended(run, name, files, columns, kind, mended)
             check_in_place(run, name, files, columns, kind, prices, wanted)

@@ -1,11 +1,14 @@
-"""Runs all checks: first those that need nothing, then the gate, and those of the program, side by side. Where the
+"""Runs one check, or all: first those that need nothing, then the gate, and those of the program, side by side. Where the
 program in bin/ is of the sources as they are, these go on beside the gate, which is to build the same, byte for byte;
 else, and where that failed, they look at what the gate has built. Each is a process in a group of its own, with its
 output in a log, which is shown whole when it has ended. It fails where a check in it does, where it makes none, where
 it ends without its counts, and where it takes far more processor time than it should, or no end comes. How long it
 takes by the clock fails nothing: other work may slow it."""
+import argparse
 import concurrent.futures
 import contextlib
+import dataclasses
+import inspect
 import itertools
 import os
 import re
@@ -13,9 +16,9 @@ import signal
 import subprocess
 import sys
 import tempfile
+import traceback
 
-from checks.registry import BUILT, GATE, NOTHING, PROGRAM
-from running import TOP, Counts, ran, read
+from running import TOP, Counts, Run, ran, read
 
 COUNTS = re.compile(r"(?m)^(\d+) passed, (\d+) failed$")
 TELLING = re.compile(r"(?im)^.*(?:fail|error).*$")
@@ -23,6 +26,53 @@ MOST_TELLING = 40
 MUCH = 20                           # a process may take so many times the time that its check should, and a minute
 LONGEST_WAIT = 4 * 3600             # seconds by the clock, after which a check that waits for something is ended
 PROCESSORS = len(os.sched_getaffinity(0))
+# What a check needs: nothing that is built, the gate (which it is, or what that has built), the program, or that and
+# what else the gate has built.
+NOTHING, GATE, PROGRAM, BUILT = "nothing", "the gate", "the program", "the program and the gate"
+
+
+@dataclasses.dataclass(frozen=True)
+class Check:
+    """A check. `seconds` is about what it takes of processor time, None where that has no limit. Its words are numbers,
+    each with the one that it is else, and options; those of `quick` are given where there is no gate."""
+
+    name: str
+    seconds: int | None
+    run: object = None          # a function that takes a Run
+    command: tuple = ()         # or a command that prints its counts itself
+    needs: str = PROGRAM
+    words: dict = dataclasses.field(default_factory=dict)
+    quick: tuple = ()
+    text: str = ""              # of a command, what it looks at
+
+    def about(self):
+        """What it looks at, in a sentence."""
+        text = self.text or self.run.__doc__ or sys.modules[self.run.__module__].__doc__
+        return " ".join(text.split("\n\n")[0].split())
+
+
+def run_one(check, words):
+    """Runs one check with these words, prints its counts, and gives the exit status."""
+    if check.command:
+        os.chdir(TOP)
+        os.execvp(check.command[0], [*check.command, *words])
+    about = "\n\n".join(filter(None, map(inspect.getdoc, [check.run, sys.modules[check.run.__module__]])))
+    parser = argparse.ArgumentParser(f"scripts/check {check.name}", description=about,
+                                     formatter_class=argparse.RawDescriptionHelpFormatter)
+    for name, default in check.words.items():
+        is_option = name.startswith("-")
+        how = {"action": "store_true"} if is_option else {"type": int, "nargs": "?", "default": default}
+        parser.add_argument(name, **how)
+    with tempfile.TemporaryDirectory() as folder:
+        run = Run(folder, parser.parse_args(words))
+        try:
+            check.run(run)
+        except Exception as error:              # whatever it is, it is a check that failed
+            traceback.print_exc(file=sys.stdout)
+            run.check(f"{check.name} comes to its end", False, repr(error))
+    if run.kinds:
+        print(", ".join(f"{count} {kind}" for kind, count in sorted(run.kinds.items())))
+    return run.end()
 
 
 class Step:
@@ -69,7 +119,6 @@ class Step:
         if not passed and not failed:
             return "made no checks"
         return f"ended with status {status}" if status and not failed else ""
-
 
     def report(self, counts):
         """Adds its counts to those of all, and shows what it has printed."""
@@ -121,19 +170,22 @@ def look(steps, program, counts, beside=()):
         counts.check("there is a program that is up to date with its sources; ./rvfence builds it", False)
 
 
-def run_gate(of_gate, of_program, counts):
-    """Runs the steps of the gate one after another, and those of the program: beside them where the one in bin/ is of
-    the sources as they are, else when they have ended. Returns the program that was looked at."""
+def run_steps(of_kind, is_quick, counts):
+    """Runs the steps of all kinds: those of the program beside the gate where the one in bin/ is of the sources as they
+    are, else when the gate has ended; and then those that need both."""
+    run_rows([[step] for step in of_kind[NOTHING]], counts)
+    of_gate, of_program, of_both = of_kind[GATE], of_kind[PROGRAM], of_kind[BUILT]
     program = program_to_check(False)
-    if os.path.dirname(program) == f"{TOP}/bin":
+    if is_quick:
+        look([*of_program, *of_both], program, counts)
+    elif os.path.dirname(program) == f"{TOP}/bin":
         for step in of_program:
             step.is_behind = True
         look(of_program, program, counts, of_gate)
+        look(of_both, program, counts)
     else:
         run_rows([of_gate], counts)
-        program = program_to_check(of_gate[0].has_passed)
-        look(of_program, program, counts)
-    return program
+        look([*of_program, *of_both], program_to_check(of_gate[0].has_passed), counts)
 
 
 def run_all(checks, is_quick):
@@ -144,11 +196,7 @@ def run_all(checks, is_quick):
     with tempfile.TemporaryDirectory() as folder:
         steps = [Step(check, check.quick * is_quick, folder) for check in checks]
         of_kind = {kind: [it for it in steps if it.check.needs == kind] for kind in (NOTHING, GATE, PROGRAM, BUILT)}
-        run_rows([[step] for step in of_kind[NOTHING]], counts)
-        if is_quick:
-            look([*of_kind[PROGRAM], *of_kind[BUILT]], program_to_check(False), counts)
-        else:
-            look(of_kind[BUILT], run_gate(of_kind[GATE], of_kind[PROGRAM], counts), counts)
+        run_steps(of_kind, is_quick, counts)
     print(*[line for step in steps for line in step.lines], sep="\n")
     return counts.end()
 
