@@ -13,7 +13,7 @@ import re
 import sys
 
 from running import (EXAMPLES, PRICE_LISTS, PRICES, TOP, Said, compact, encoded, expanded, here, ran, read, rows,
-                     rvfence, tests_of_examples, written)
+                     rvfence, tests_of_examples)
 from verdicts import Judge
 
 FAULT = 'fault F18 BadCertificate'
@@ -69,7 +69,7 @@ def refuted(run, test, judge, cert, wanted):
     if items is None or cert['answer'] == 'none':
         return None
     cert = dict(cert, version=4, cycles=items)
-    files = [test, PRICES, written(run.path('refuted.json'), json.dumps(cert))]
+    files = [test, PRICES, run.file('refuted.json', json.dumps(cert))]
     judge_both(run, f'{test}, refuted', files, judge, wanted)
     return cert
 
@@ -107,7 +107,7 @@ def check(run):
         dice = random.Random(number)
         what, test, prices, judge, cert = found[number % len(found)]
         other = dice.choice([it[-1] for it in found if it[-1]['version'] == cert['version']])
-        path = written(run.path('mangled.json'), json.dumps(mangled(cert, other, dice)))
+        path = run.file('mangled.json', json.dumps(mangled(cert, other, dice)))
         wanted = judge.verdict(read(path))
         words = wanted.out.split() or ['fault']
         run.kinds[' '.join(words[:2]) if words[0] != 'yes' else 'yes'] += 1
@@ -122,7 +122,7 @@ def stored(name):
 def judge(run, what, test, data, wanted, prices=PRICES, fault=None):
     """Is the verdict on this certificate as wanted? `yes` alone stands for all answers; with its answer the command is
     run. `check` must print the same, but for the fault, where one is given: it looks for faults in the runs too."""
-    files = [test, prices, written(run.path("certificate.json"), data)]
+    files = [test, prices, run.file("certificate.json", data)]
     command = [sys.executable, f"{TOP}/scripts/check_certificate.py", *files]
     said = ran(command) if "\n" in wanted else Judge(test, prices).verdict(data)
     run.expect(f"{what}, by check", Said("", f"{fault}\n", 2) if fault else said, rvfence("check", *files))

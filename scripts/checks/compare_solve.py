@@ -9,13 +9,13 @@ import os
 import check_certificate as model
 import solve_reference as reference
 from litmus import Maker
-from running import EXAMPLES, read, rows, rvfence, written
+from running import EXAMPLES, read, rows, rvfence
 from verdicts import is_same
 
 
 def compare(run, name, data, prices):
     test = model.test_of(data)
-    files = [written(run.path("test.litmus"), data), written(run.path("prices.json"), prices)]
+    files = [run.file("test.litmus", data), run.file("prices.json", prices)]
     wanted = out, error, _ = reference.answer(test, model.prices_of(prices))
     found = rvfence("solve", "-q", *files)
     first = " ".join((out + error).split()[:2])

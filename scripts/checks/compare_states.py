@@ -7,7 +7,7 @@ import random
 
 import check_certificate as model
 from litmus import Maker
-from running import compact, read, rvfence, written
+from running import compact, read, rvfence
 from verdicts import Listing
 
 
@@ -39,7 +39,7 @@ def compare_states(run, listing, name, placement, flags):
         is_right = listing.ends_so(witness, listing.line_of(state), placement)
         run.check(f"the witness of {state} of {what}", is_right, witness)
         is_outcome = listing.is_true(state) == listing.test.wanted[1]
-        said = rvfence("order", name, written(run.path("witness"), witness), *fences)
+        said = rvfence("order", name, run.file("witness", witness), *fences)
         run.expect(f"order of {state} of {what}", "yes\n" if is_outcome else "no: outcome\n", said.out)
     return len(states)
 
@@ -47,7 +47,7 @@ def compare_states(run, listing, name, placement, flags):
 def compare(run, number):
     """Compares on the test of this number, and says how many states it has, without fences and with some."""
     data, is_all = Maker(number).make()[0], number % 2 == 1
-    name = written(run.path(f"made{number}"), data)
+    name = run.file(f"made{number}", data)
     try:
         listing = Listing(data, is_all)
     except model.Fault as fault:

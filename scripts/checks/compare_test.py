@@ -13,7 +13,7 @@ import re
 
 import check_certificate as model
 from litmus import Maker
-from running import rvfence, written
+from running import rvfence
 from verdicts import YES, stores_of, verdict_of
 
 ONES = model.prices_of(b'{"rw,rw":1}')
@@ -102,14 +102,14 @@ def compare_objects(run, names, said):
         more = {"allowed": ["witness"], "fault": ["column", "line", "message"]}.get(verdict, [])
         run.expect(f"the keys of {name}", sorted(["file", "verdict", "why", *more]), list(thing))
         if verdict == "allowed":
-            witness = written(f"{run.folder}/witness", json.dumps(thing["witness"]).encode())
+            witness = run.file("witness", json.dumps(thing["witness"]))
             run.expect(f"the witness of {name}", YES, rvfence("order", name, witness))
 
 
 def compare(run, numbers):
     """Compares what is said of the tests of these numbers in one run, and counts the kinds."""
     texts = [made(number) for number in numbers]
-    names = [written(f"{run.folder}/{number}", text) for number, text in zip(numbers, texts)]
+    names = [run.file(str(number), text) for number, text in zip(numbers, texts)]
     said = rvfence("test", *names)
     by_jobs = rvfence("test", "--jobs", "4", *names)
     run.expect(f"{len(names)} files with 4 jobs", (said.status, said.out), (by_jobs.status, by_jobs.out))

@@ -65,8 +65,8 @@ def timed(text, words, most):
 
 
 def run(name, text, wanted, words, limits):
-    """Of a run with this input and words its name, what is wrong with it, its seconds and its bytes. What takes too long
-    runs again, up to twice, as a processor that much else shares may be many times as slow for a while."""
+    """Of a run with this input and words its name, what is wrong with it, its seconds and its bytes. What takes too
+    long runs again, up to twice, as a processor that much else shares may be many times as slow for a while."""
     for _ in range(TIMES):
         said, seconds, memory = timed(text, words, limits[0])
         if seconds <= limits[0]:

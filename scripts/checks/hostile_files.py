@@ -17,8 +17,6 @@ TESTS_COMPOSED = 6000
 MEBIBYTE, HUGE = 1024 * 1024, 100_000_000
 UTF8 = "fault F1 BadUtf8"
 TITLE = "fault F2 NotRiscv"
-PRICES = "fault F10 BadPrices"
-NO_FENCE = "fault F12 BadFence"
 WITNESS = "fault F17 BadWitness"
 CERTIFICATE = "fault F18 BadCertificate"
 # What is said of a witness of the right form, and what `states` says of a log: what is seen and allowed, or its error.
@@ -36,28 +34,21 @@ def last_line(text):
     return text.count(b"\n") + (not text.endswith(b"\n"))
 
 
-def litmus(init="0:x6=x;", cell="lw x5,0(x6)", condition="0:x5=0"):
-    """A test of one hart. Its init block is line 2, its cell line 4, and its condition line 5."""
-    return f"RISCV T\n{{ {init} }}\nP0 ;\n{cell} ;\nexists {condition}\n".encode("ascii")
+# What a text of the table stands for: by a form of the table, in place of its @, or as it is made here.
+FORMS = dict(row.split(" | ", 1) for row in rows("hostile", "parts"))
+PARTS = {"latin": lambda text: text.encode("latin-1"), "words": lambda text: text.split(" ¦ "),
+         "noise": lambda seed: random.Random(int(seed)).randbytes(MEBIBYTE)}
 
 
-def witness_of(choices, order):
-    return f'{{"choices":[{choices}],"order":[{order}]}}'.encode()
-
-
-# What a text of the table stands for.
-PARTS = {"init": lambda text: litmus(init=text), "init, no cell": lambda text: litmus(init=text, cell=""),
-         "cell": lambda text: litmus(cell=text), "condition": lambda text: litmus(condition=text), "whole": str.encode,
-         "latin": lambda text: text.encode("latin-1"),
-         "choices": lambda text: witness_of(text, '"P0:2","P1:2","P0:1","P1:1"'),
-         "order": lambda text: witness_of("[0],[0]", text)}
+def part(name, text):
+    return PARTS[name](text) if name in PARTS else expanded(FORMS[name]).replace("@", text).encode()
 
 
 def of_table(group):
     """The files of a group of the table."""
     for line in rows("hostile", group):
-        wanted, part, name, text = line.split(" | ", 3)
-        yield name, PARTS[part](expanded(text)), {"READ": READ, "LOGGED": LOGGED}.get(wanted, wanted)
+        wanted, form, name, text = line.split(" | ", 3)
+        yield name, part(form, expanded(text)), {"READ": READ, "LOGGED": LOGGED}.get(wanted, wanted)
 
 
 def words(group):
@@ -74,10 +65,16 @@ def rewritten(group, text):
         yield name, text.replace(old, expanded(new)).encode(), (wanted or "").replace(" / ", "\n")
 
 
-def flooded(group, signs, wanted, size=MEBIBYTE - 100):
+def sign_of(escaped):
+    """The bytes of a sign of the table."""
+    return escaped.encode().decode("unicode_escape").encode("latin-1")
+
+
+def flooded(group, size=MEBIBYTE - 100):
     """A flood of each sign in each place that a group of the table has for it."""
-    for sign, line in itertools.product(signs, rows("hostile", group)):
-        place, text = line.split(" | ")
+    first, *places = rows("hostile", group)
+    wanted, signs = first.split(" | ")
+    for sign, (place, text) in itertools.product(map(sign_of, signs.split(" ")), [it.split(" | ") for it in places]):
         yield f"{sign!r} {place}", text.encode().replace(b"@", sign * (size // len(sign))), wanted
 
 
@@ -207,7 +204,7 @@ def floods():
     """A mebibyte of each sign of the table: bare; after a good beginning; and between that and a good end."""
     for line in rows("hostile", "floods"):
         escaped, *answers = map(str.strip, line.split(" | "))
-        sign = escaped.encode().decode("unicode_escape").encode("latin-1")
+        sign = sign_of(escaped)
         is_utf8 = sign != b"\xff"
         yield f"{sign!r} alone", sign * (MEBIBYTE // len(sign)), TITLE if is_utf8 else UTF8
         for (place, (before, after)), answer in zip(PLACES.items(), answers):
@@ -246,13 +243,9 @@ def samples():
     yield from of_table("sizes")
 
 
-# What begins or ends a value of JSON, or is no part of one.
-SIGNS_OF_JSON = [b"[", b"{", b"]", b"}", b'"', b"\\", b"0", b"-", b"e", b",", b":", b"\0", b"\xff"]
-
-
 def prices():
     """Prices for MP. What is no JSON, or no object of prices, is bad; blanks around are nothing."""
-    yield from flooded("flooded prices", [*SIGNS_OF_JSON, b'{"rw,rw":', b'{"weights":', b"1", b"."], PRICES)
+    yield from flooded("flooded prices")
     yield from of_table("prices")
     every = ",".join(f'"P{hart}:{at}":{at}' for hart in range(256) for at in range(256))
     yield "a weight for every slot", b'{"rw,rw":1,"weights":{' + every.encode("ascii") + b"}}", READ
@@ -292,21 +285,6 @@ def parts_changed(value, place="all"):
         yield f"{place} {at} twice", value[:at + 1] + value[at:]
 
 
-def fences():
-    """Words for MP that name no fence, or one that its slots don't have."""
-    for word in words("fences"):
-        yield f"the word {word[:40]!r}", [word], NO_FENCE
-    yield "a fence 5,000 times", ["P0:3=w,w"] * 5_000, NO_FENCE
-    yield "5,000 words of no fence", ["w"] * 5_000, NO_FENCE
-    yield "two fences", ["P1:1=r,r", "P0:3=w,w"], READ
-
-
-def logs():
-    """Logs for SB: floods, blocks that break off, many blocks, states and items, and what isn't UTF-8."""
-    yield from of_table("kinds of logs")
-    yield "noise for a log", random.Random(4).randbytes(MEBIBYTE), "error: the log isn't UTF-8"
-
-
 def changed(what, whole, bytes_for, answer):
     """Each beginning of a text of JSON, and the text with each byte replaced by each of these, and each value, too."""
     yield from answered(answer, beginnings_of(what, whole), bytes_replaced(what, whole, bytes_for),
@@ -316,7 +294,7 @@ def changed(what, whole, bytes_for, answer):
 def witnesses():
     """Changes of a witness for SB, and large ones. Lists that are too long are a matter of the runs, names of the
     order, whatever their numbers; choices come first."""
-    whole = witness_of("[0],[0]", '"P0:2","P1:2","P0:1","P1:1"')
+    whole = part("choices", "[0],[0]")
 
     def answer(text):
         witness = read_witness(text)
@@ -325,8 +303,7 @@ def witnesses():
     yield from changed("a witness", whole, TELLING, answer)
     for name, text, _ in noise():
         yield f"{name} for a witness", text, WITNESS
-    signs = [*SIGNS_OF_JSON, b"[[", b'{"choices":', b"9", b"1."]
-    for name, text, wanted in flooded("flooded witnesses", signs, WITNESS):
+    for name, text, wanted in flooded("flooded witnesses"):
         # a name with a number of nines is one, and no operation has it
         yield name, text, "no: order" if name == "b'9' for a number" else wanted
     yield from of_table("witness parts")
@@ -362,8 +339,7 @@ def certificates():
     for name, text, _ in noise():
         yield f"{name} for a certificate", text, CERTIFICATE
     yield from rewritten("surrogates in certificates", stored("SB"))
-    signs = (b"[", b'{"', b'{"tree":', b'"', b" ", b"0", b"[[", b"\xff")
-    yield from flooded("flooded certificates", signs, CERTIFICATE)
+    yield from flooded("flooded certificates")
 
 
 def refutations():
@@ -374,8 +350,7 @@ def refutations():
 def huge_certificates():
     """Certificates of SB of 100 MB, most of them by one part again and again."""
     yield from rewritten("huge certificates", stored("SB"))
-    signs = (b"[", b'{"tree":', b'"', b"0", b"\0", b"\xff")
-    yield from flooded("flooded certificates", signs, CERTIFICATE, HUGE)
+    yield from flooded("flooded huge certificates", HUGE)
 
 
 def group(name):

@@ -20,6 +20,11 @@ from verdicts import YES
 
 SEVERAL = r"\d+(?:, \d+)*(?: and \d+)?"
 PIECE = rf"in (?:ones? like )?cycles? {SEVERAL}|in \d+ more kinds?"
+# how blocks begin that `--why` prints: contradictions, and executions without a fence or with all
+CHAIN = re.compile(r"(cycle|stale|not atomic) (\d+)")
+FENCE = re.compile(r"(\S+) before (P\d+):(\d+) \(line (\d+),.*\)(.*)")
+EXECUTION = "The outcome can be "
+ALL_TESTS = [*tests_of_examples(), *glob.glob(f"{EXAMPLES}/tests/*.litmus")]
 
 
 def check_transcripts(checks):
@@ -143,18 +148,18 @@ def check_contradictions(checks, path, head, blocks, placed):
     """Of fences it is told why they rule the outcome out, in chains by fences of the answer, and what needs each."""
     is_told = bool(blocks) and re.match(r"Each way to the outcome that |No values that the loads ", blocks[0])
     checks.expect(f"whether contradictions are told of {path}", head.startswith("fenced"), bool(is_told))
-    chains = [block for block in blocks if re.match(r"(cycle|stale|not atomic) \d+", block)]
+    chains = [block for block in blocks if CHAIN.match(block)]
     checks.expect(f"whether a chain is told of {path}", bool(is_told) and blocks[0].startswith("Each"), bool(chains))
     for block in chains:
         checks.expect(f"what is wrong with this of {path}: {block}", [], [*faults_of_chain(block, placed)])
     told = {block.split()[1]: block for block in chains if block.startswith("cycle ")}
-    for fence, cycles in placed.items():
+    for (kind, line), cycles in placed.items():
         said = re.fullmatch(rf": (?:{PIECE})(?:(?:,| and) (?:{PIECE}))*", cycles)
         own, alike = (set(re.findall(r"\d+", " ".join(re.findall(rf"in {word}cycles? ({SEVERAL})", cycles))))
                       for word in ("", "ones? like "))
-        where = rf"fence {fence[0]} before line {fence[1]} |fences \(rule 4"
+        where = rf"fence {kind} before line {line} |fences \(rule 4"
         is_right = said and own | alike <= told.keys() and all(re.search(where, told[number]) for number in own)
-        checks.check(f"{path}: whether {fence} is in cycles that are told{cycles}", is_right)
+        checks.check(f"{path}: whether {kind} in line {line} is in cycles that are told{cycles}", is_right)
 
 
 def check_why(checks):
@@ -164,15 +169,15 @@ def check_why(checks):
         head, *blocks = rvfence("solve", path, PRICES, "--why", "-q").out.split("\n\n")
         fences, test = fences_of(head.split("\n")), model.read(path, model.test_of)
         cases = [(fence, [it for it in fences if it != fence]) for fence in fences]
-        told_of = [block for block in blocks if re.match(r"\S+ before P\d+:\d+ \(line |The outcome can be ", block)]
-        named = [re.match(r"(\S+) before \S+ \(line (\d+),.*\)(.*)", it) for it in told_of if " before P" in it[:20]]
-        placed = {it.groups()[:2]: it[3] for it in named}
+        told_of = [block for block in blocks if FENCE.match(block) or block.startswith(EXECUTION)]
+        named = [it for it in map(FENCE.match, told_of) if it]
+        placed = {(it[1], it[4]): it[5] for it in named}
         check_contradictions(checks, path, head, [it for it in blocks if it not in told_of], placed)
         if head.startswith("none"):
             cases = [("all", [f"P{hart}:{at}=rw,rw" for hart, at in test.slots()])]
         else:
-            lines = [re.sub(r"(\S+) before (\S+) .*", r"\2=\1", block.split("\n")[0]) for block in told_of]
-            checks.expect(f"the fences of which is told of {path}", fences, lines)
+            words = [f"{it[2]}:{it[3]}={it[1]}" for it in named]
+            checks.expect(f"the fences of which is told of {path}", fences, words)
         for (fence, words), block in zip(cases, told_of, strict=True):
             witness = written(f"{checks.folder}/witness.json", told(test, block))
             said, rows = rvfence("order", path, witness, *words, "--why"), block.partition("memory:\n")[2]
@@ -181,11 +186,11 @@ def check_why(checks):
 
 def check_forbidden(checks):
     """`test --why` tells of each forbidden example contradictions, at most as many as it counts, by written fences."""
-    for path in [*tests_of_examples(), *glob.glob(f"{EXAMPLES}/tests/*.litmus")]:
+    for path in ALL_TESTS:
         head, *blocks = rvfence("test", path, "--why", "-q").out.split("\n\n")
         if counted := re.search(r"  forbidden  (?:(\d+) contradiction|no )", head):
             rows = [" ".join(line.split()) for line in text_of(path).split("\n")]
-            chains = [block for block in blocks if re.match(r"(cycle|stale|not atomic) \d+", block)]
+            chains = list(filter(CHAIN.match, blocks))
             is_right = min(int(counted[1] or 0), 1) <= len(chains) <= int(counted[1] or 0)
             checks.check(f"how many contradictions are told of {path}", is_right, head)
             for block in chains:
@@ -208,17 +213,19 @@ def check_pictures(checks):
         os.makedirs(folder)
         blocks = rvfence("solve", path, PRICES, "--why", "--dot", folder, "-q").out.split("\n\n")
         drawn = {os.path.basename(it): text_of(it) for it in glob.glob(f"{folder}/*.dot")}
-        wanted = {f"{name}-execution.dot" for it in blocks if it.startswith("The outcome can be ")}
-        fences = map(re.compile(r"\S+ before (P\d+):(\d+) \(").match, blocks)
-        wanted |= {f"{name}-without-{it[1]}-{it[2]}.dot" for it in fences if it}
+        wanted = set()
         for block in blocks:
-            if chain := re.match(r"(cycle|stale|not atomic) (\d+)", block):
+            if chain := CHAIN.match(block):
                 file = f"{name}-{chain[1].replace(' ', '-')}-{chain[2]}.dot"
                 names = re.findall(r"(?m)^  (P\d+:\d+) +line ", block)
                 wanted.add(file)
-                if block.startswith("cycle "):
+                if chain[1] == "cycle":
                     arrows = list(zip(names, names[1:] + names[:1]))
                     checks.expect(f"the arrows of {file}", arrows, arrows_of(drawn.get(file, "")))
+            elif fence := FENCE.match(block):
+                wanted.add(f"{name}-without-{fence[2]}-{fence[3]}.dot")
+            elif block.startswith(EXECUTION):
+                wanted.add(f"{name}-execution.dot")
         checks.expect(f"the pictures of {path}", sorted(wanted), sorted(drawn))
         for it in sorted(drawn) if shutil.which("dot") else []:
             said = ran(["dot", "-Tsvg", "-o", "/dev/null", f"{folder}/{it}"])
@@ -227,35 +234,27 @@ def check_pictures(checks):
         shutil.rmtree(folder)
 
 
-def answer_of(found):
-    """The lines of `solve` that say what its JSON object says."""
+def lines_of(found, fault):
+    """The lines that say what a JSON object of `solve` or `check` says; nothing where it says this very fault."""
+    if found.get("verdict") == "fault":
+        return found["why"].removeprefix(fault)
+    if "valid" in found:
+        return f"yes\n{lines_of(found['answer'], fault)}" if found["valid"] else f"no: {found['reason']}\n"
     if found["answer"] == "none":
         return f"none\n{compact(found['witness'])}\n"
     fences = [f"fence P{fence['hart']} {fence['before']} {fence['kind']}\n" for fence in found["fences"]]
     return "".join([f"fenced {found['cost']}\n", *fences])
 
 
-def lines_of(plain, said, text_of):
-    """The run with `--json` with what the lines say in place of its object; nothing where that says this very fault."""
-    found = json.loads(said.out)
-    if plain.status != 2:
-        return said._replace(out=text_of(found))
-    is_same = found["verdict"] == "fault" and found["why"] == plain.err.partition("\n")[0]
-    return said._replace(out="" if is_same else said.out)
-
-
 def check_objects(checks):
     """With `--json` `solve` and `check` say what they say without, of each example and each certificate."""
-    def verdict_of(found):
-        return f"yes\n{answer_of(found['answer'])}" if found["valid"] else f"no: {found['reason']}\n"
-
-    for test in [*tests_of_examples(), *glob.glob(f"{EXAMPLES}/tests/*.litmus")]:
-        plain, said = rvfence("solve", test, PRICES), rvfence("solve", test, PRICES, "--json")
-        checks.expect(f"the object of the answer for {test}", plain, lines_of(plain, said, answer_of))
-    for path, name in itertools.product(sorted(glob.glob(f"{EXAMPLES}/certificates/*.json")), ("MP", "SB", "MP11")):
-        words = ["check", f"{EXAMPLES}/{name}.litmus", PRICES, path]
+    runs = [["solve", test, PRICES] for test in ALL_TESTS]
+    runs += [["check", f"{EXAMPLES}/{name}.litmus", PRICES, path] for path, name in itertools.product(
+        sorted(glob.glob(f"{EXAMPLES}/certificates/*.json")), ("MP", "SB", "MP11"))]
+    for words in runs:
         plain, said = rvfence(*words), rvfence(*words, "--json")
-        checks.expect(f"the object of {path} for {name}", plain, lines_of(plain, said, verdict_of))
+        lines = lines_of(json.loads(said.out), plain.err.partition("\n")[0])
+        checks.expect(f"the object of {words}", plain, said._replace(out=lines))
 
 
 def check_messages(checks):

@@ -127,7 +127,7 @@ def try_part(check, library, part):
 
 
 def check(run):
-    library = compiled("checks/refuse.c", run.folder, "-shared", "-fPIC")
+    library = compiled("checks/hinder.c", run.folder, "-shared", "-fPIC")
     for way, number, *words in map(str.split, rows("refused")):
         if way == "most":                       # it ends with status 0, and makes no more requests than these
             said, requests = refusing(library, [program(), *words], cwd=TOP)

@@ -1,9 +1,9 @@
-"""Runs one check, or all: first those that need nothing, then the gate, and those of the program, side by side. Where the
-program in bin/ is of the sources as they are, these go on beside the gate, which is to build the same, byte for byte;
-else, and where that failed, they look at what the gate has built. Each is a process in a group of its own, with its
-output in a log, which is shown whole when it has ended. It fails where a check in it does, where it makes none, where
-it ends without its counts, and where it takes far more processor time than it should, or no end comes. How long it
-takes by the clock fails nothing: other work may slow it."""
+"""Runs one check, or all: first those that need nothing, then the gate, and those of the program, side by side. Where
+the program in bin/ is of the sources as they are, these go on beside the gate, which is to build the same, byte for
+byte; else, and where that failed, they look at what the gate has built. Each is a process in a group of its own, with
+its output in a log, which is shown whole when it has ended. It fails where a check in it does, where it makes none,
+where it ends without its counts, and where it takes far more processor time than it should, or no end comes. How long
+it takes by the clock fails nothing: other work may slow it."""
 import argparse
 import concurrent.futures
 import contextlib
