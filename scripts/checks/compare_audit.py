@@ -281,19 +281,16 @@ def in_place(places, anew):
     return (said, int(not all(re.search(STAYS, line) for line in said[1:]))), changed
 
 
-def fences_of(text):
-    """Of each hart the fences of a printed test, in their places: of each cell its letters, or None."""
-    return [[cell.letters for cell in column if cell.bare] for column in Columns(re.sub("L[0-9]+:", LABEL, text)).cells]
+def fences_of(columns):
+    """Of each hart the fences in their places: of each cell its letters, or None."""
+    return [[cell.letters for cell in column if cell.bare] for column in columns.cells]
 
 
 def mended_fences(columns, placed):
     """The same of the test that `--write` is to print."""
-    harts = []
-    for hart, column in enumerate(columns.without_fences().cells):
-        harts.append([])
-        for at, cell in enumerate(cell for cell in column if cell.bare):
-            kind = placed.get((hart, at))
-            harts[-1] += [kind] * (kind is not None) + [cell.letters]
+    harts = fences_of(columns.without_fences())
+    for (hart, at), kind in reversed(placed.items()):
+        harts[hart][at:at] = [kind] if kind else []
     return harts
 
 
@@ -304,7 +301,8 @@ def check_mended(run, name, files, columns, kind, mended):
     if mended.best is None:
         run.expect(f"{name}: nothing is written", "", said.out)
         return
-    run.expect(f"{name}: the written fences", mended_fences(columns, mended.placed), fences_of(said.out))
+    found = fences_of(Columns(re.sub("L[0-9]+:", LABEL, said.out)))
+    run.expect(f"{name}: the written fences", mended_fences(columns, mended.placed), found)
     file, wanted = run.file("mended.litmus", said.out), "vacuous" if kind == "vacuous" else "forbidden"
     run.expect(f"{name}: the written test", wanted, verdict(file))
     again = rvfence("audit", file, files[1], "--write")

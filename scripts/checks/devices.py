@@ -102,57 +102,54 @@ def check_readers(checks):
                "an empty name": ("", MISSING), "the memory of a process": ("/proc/self/mem", UNREAD),
                "a name below a file": (f"{checks.test}/x", UNREAD), "a name of 300 letters": ("n" * 300, UNREAD),
                "a locked file": (locked, UNREAD)}
-    lines = [checks.commands[name][0] for name in ("order", "solve", "check")]
-    for line in [["place", checks.test, "--prices", checks.prices], *lines]:
-        for at in range(1, len(line)):
-            for name, (path, why) in failing.items() if line[at] != "--prices" else ():
-                for more, wanted in ([], unread(path, why)), (["-q"], Said("", "fault F20 ReadFault\n", 2)):
-                    words = [*line[:at], path, *line[at + 1:], *more]
-                    found = checks.run(words, **(others if path == locked else {}))
-                    checks.expect(f"{name} as word {at} of {' '.join([line[0], *more])}", wanted, found)
+    lines = [["place", checks.test, "--prices", checks.prices]]
+    lines += [checks.commands[name][0] for name in ("order", "solve", "check")]
+    for line, (name, (path, why)), more in itertools.product(lines, failing.items(), ([], ["-q"])):
+        for at in [at for at in range(1, len(line)) if line[at] != "--prices"]:
+            found = checks.run([*line[:at], path, *line[at + 1:], *more], **(others if path == locked else {}))
+            wanted = Said("", "fault F20 ReadFault\n", 2) if more else unread(path, why)
+            checks.expect(f"{name} as word {at} of {' '.join([line[0], *more])}", wanted, found)
 
 
-def check_inputs(checks):
-    """Standard input that is closed, a folder, open for writing alone, or a connection that breaks before its end."""
-    for command, (words, _) in checks.commands.items():
-        words = [words[0], "stdin", *words[2:]]
-        failed = unread("stdin", UNREAD)
-        checks.expect(f"{command}: standard input is closed", failed, checks.run(words, preexec_fn=before(0)))
-        for name, path, how, wanted in (("open for writing alone", os.devnull, os.O_WRONLY, failed),
-                                        ("a folder", checks.folder, os.O_RDONLY, unread("stdin", FOLDER))):
+def check_streams(checks):
+    """Standard input or output that is closed, a folder, full, or open for the other use alone; input that breaks
+    before its end; and output that nobody reads, or that takes some bytes."""
+    for command, (words, answer) in checks.commands.items():
+        checks.expect(f"{command}: all is well", answer, checks.run(words))
+        reading, failed = [words[0], "stdin", *words[2:]], unread("stdin", UNREAD)
+        checks.expect(f"{command}: standard input is closed", failed, checks.run(reading, preexec_fn=before(0)))
+        checks.expect(f"{command}: standard output is closed", UNWRITTEN, checks.run(words, preexec_fn=before(1)))
+        for stream, path, how, line, wanted in (("stdin", os.devnull, os.O_WRONLY, reading, failed),
+                                                ("stdin", checks.folder, os.O_RDONLY, reading, unread("stdin", FOLDER)),
+                                                ("stdout", os.devnull, os.O_RDONLY, words, UNWRITTEN),
+                                                ("stdout", "/dev/full", os.O_WRONLY, words, UNWRITTEN)):
             file = os.open(path, how)
-            checks.expect(f"{command}: standard input is {name}", wanted, checks.run(words, stdin=file))
+            checks.expect(f"{command}: {stream} is {path}, opened by {how}", wanted, checks.run(line, **{stream: file}))
             os.close(file)
         for size in (0, 1, 20, 8192, 100_000):
             settings = hindering(checks, "end", errno.ECONNRESET, name="pipe:")
-            found = checks.run(words, stdin=SB.ljust(size)[:size], env=settings)
+            found = checks.run(reading, stdin=SB.ljust(size)[:size], env=settings)
             checks.expect(f"{command}: a connection that breaks after {size} bytes", failed, found)
-
-
-def check_outputs(checks):
-    """Standard output that is closed, full, open for reading alone, a pipe that nobody reads, or takes some bytes."""
-    for command, (words, answer) in checks.commands.items():
-        checks.expect(f"{command}: all is well", answer, checks.run(words))
-        checks.expect(f"{command}: standard output is closed", UNWRITTEN, checks.run(words, preexec_fn=before(1)))
-        for name, path, mode in (("full", "/dev/full", "wb"), ("open for reading alone", "/dev/null", "rb")):
-            with open(path, mode) as file:
-                checks.expect(f"{command}: standard output is {name}", UNWRITTEN, checks.run(words, stdout=file))
-        reading, writing = os.pipe()
-        os.close(reading)
-        for name, is_ignored in (("", False), (", and the signal ignored", True)):
+        for is_ignored in (False, True):
+            end, writing = os.pipe()
+            os.close(end)
             found = checks.run(words, stdout=writing, restore_signals=not is_ignored)
-            checks.expect(f"{command}: nobody reads what is printed{name}", UNWRITTEN, found)
-        os.close(writing)
+            checks.expect(f"{command}: nobody reads what is printed, ignored: {is_ignored}", UNWRITTEN, found)
+            os.close(writing)
         for size, is_ignored, old in itertools.product(range(len(answer.out) + 1), (True, False), ("", "old\n")):
-            path = f"{checks.folder}/printed"
-            written(path, old)
-            with open(path, "ab") as file:
-                limits = before(size=size + len(old), is_ignored=is_ignored)
-                found = checks.run(words, stdout=file, preexec_fn=limits)
+            found, taken = taking(checks, words, "stdout", size, is_ignored, old)
             wanted = answer if size == len(answer.out) else UNWRITTEN._replace(out=answer.out[:size])
-            found = found._replace(out=text_of(path).removeprefix(old))
-            name = f"{command}: standard output takes {size} bytes behind {old!r}"
-            checks.expect(name + ("" if is_ignored else ", or a signal comes"), wanted, found)
+            name = f"{command}: standard output takes {size} bytes behind {old!r}, ignored: {is_ignored}"
+            checks.expect(name, wanted, found._replace(out=taken))
+
+
+def taking(checks, words, stream, size, is_ignored, old=""):
+    """What a run says of which one output goes to a file that takes so many bytes more; and these."""
+    path = written(f"{checks.folder}/printed", old)
+    with open(path, "ab") as file:
+        limits = before(size=size + len(old), is_ignored=is_ignored)
+        found = checks.run(words, preexec_fn=limits, **{stream: file})
+    return found, text_of(path).removeprefix(old)
 
 
 def check_errors(checks):
@@ -160,12 +157,9 @@ def check_errors(checks):
     missing = ["place", f"{checks.folder}/missing"]
     line = unread(missing[1], MISSING).err
     for size, is_ignored in itertools.product(range(0, len(line) + 8, 7), (True, False)):
-        path = f"{checks.folder}/said"
-        with open(path, "wb") as file:
-            found = checks.run(missing, stderr=file, preexec_fn=before(size=size, is_ignored=is_ignored))
+        found, taken = taking(checks, missing, "stderr", size, is_ignored)
         wanted = "".join(it for it in line.splitlines(keepends=True) if line.index(it) + len(it) <= size)
-        is_right = found.status == 2 and text_of(path) == wanted
-        checks.check(f"standard error takes {size} bytes, ignored: {is_ignored}", is_right, (found, wanted))
+        checks.expect(f"standard error takes {size} bytes, ignored: {is_ignored}", (2, wanted), (found.status, taken))
 
 
 def check_certificates(checks):
@@ -180,8 +174,7 @@ def check_certificates(checks):
             answer, left = (SB_ANSWER, checks.whole) if size == room else (UNWRITTEN, kept)
             if closed:
                 said, answer = said.status, 2 if 1 in closed else answer.status
-            name = f"streams {closed} closed, room for {size} bytes of a certificate, {kept} there"
-            name += "" if is_ignored else ", or a signal comes"
+            name = f"streams {closed} closed, room for {size} bytes of a certificate, {kept} there, {is_ignored}"
             checks.expect(name, (answer, left), (said, contents(folder)))
 
 
@@ -294,6 +287,6 @@ def check_interrupted(checks):
 
 def check(run):
     checks = Checks(run)
-    for part in (check_readers, check_inputs, check_outputs, check_errors, check_certificates, check_two_runs,
-                 check_ended_runs, check_modes, check_interrupted):
+    for part in (check_readers, check_streams, check_errors, check_certificates, check_two_runs, check_ended_runs,
+                 check_modes, check_interrupted):
         part(checks)

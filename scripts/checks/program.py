@@ -266,13 +266,12 @@ def check_messages(checks):
     for words in (["place", test], ["order", test, PRICES], ["solve", test, PRICES], ["check", test, PRICES, PRICES],
                   ["audit", test, PRICES], ["test", test]):
         first, elsewhere = "" if words[0] == "test" else line, message if words[0] in ("test", "audit") else ""
-        for name, more, wanted in (("", [], f"{first}{message}"), (" with -v", ["-v"], f"{first}{message}"),
-                                   (" with -q", ["-q"], first), (" with both", ["-v", "-q"], first)):
-            shown = ran_on_terminal([program(), *words, *more])
-            said = rvfence(*words, *more)
-            expected = f"{first}{elsewhere}" if not more else wanted
-            checks.expect(f"{words[0]}{name} on a terminal", wanted.replace("\n", "\r\n"), shown.err)
-            checks.expect(f"{words[0]}{name} elsewhere", (shown.out, expected, shown.status), tuple(said))
+        for more in ([], ["-v"], ["-q"], ["-v", "-q"]):
+            shown, said = ran_on_terminal([program(), *words, *more]), rvfence(*words, *more)
+            wanted, name = first + message * ("-q" not in more), " ".join([words[0], *more])
+            expected = wanted if more else first + elsewhere
+            checks.expect(f"{name} on a terminal", wanted.replace("\n", "\r\n"), shown.err)
+            checks.expect(f"{name} elsewhere", (shown.out, expected, shown.status), tuple(said))
 
 
 def check_progress(checks):
