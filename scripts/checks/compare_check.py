@@ -126,12 +126,10 @@ def judge(run, what, test, data, wanted, prices=PRICES, fault=None):
     command = [sys.executable, f"{TOP}/scripts/check_certificate.py", *files]
     said = ran(command) if "\n" in wanted else Judge(test, prices).verdict(data)
     run.expect(f"{what}, by check", Said("", f"{fault}\n", 2) if fault else said, rvfence("check", *files))
-    if wanted == FAULT:
-        run.expect(what, Said("", f"{FAULT}\n", 2), said)
-    elif wanted == "yes":
-        run.expect(what, ("yes", "", 0), (said.out.split("\n")[0], *said[1:]))
-    else:
-        run.expect(what, Said(f"{wanted}\n", "", 0 if wanted.startswith("yes\n") else 1), said)
+    if wanted == "yes":
+        said = said._replace(out=said.out.split("\n")[0] + "\n")
+    status = 2 if wanted == FAULT else 0 if wanted.startswith("yes") else 1
+    run.expect(what, Said("", f"{FAULT}\n", 2) if status == 2 else Said(f"{wanted}\n", "", status), said)
 
 
 def changed(certificate, changes):
