@@ -106,9 +106,8 @@ def check_states(run):
     """Compares `rvfence states` with a plain list of final states on the tests that scripts/litmus.py makes.
 
     The list is made in Python. Each test is asked without FENCE words and with some by chance, every second one with
-    `--all`. All lines must be the same, and the object of `--json` must say what they say. Each witness of
-    `--witnesses` must be an execution that ends in the state above it, and `order` must say of it what the condition
-    does."""
+    `--all`. All lines must be the same, and the object of `--json` must say what they say. Each witness that is printed
+    must be an execution that ends in the state above it, and `order` must say of it what the condition does."""
     print(f"{sum(compare_states(run, number) for number in run.numbers())} states")
 
 
@@ -223,8 +222,7 @@ def check_test(run):
     that has one. So many outcomes are vacuous; then the words for it are compared too. Of an outcome that is allowed
     the two operations must be of one hart, the first later in its code; of one that is forbidden the words have a form,
     and count contradictions where candidates show the outcome. Up to 200 files go into one run, and into one with four
-    jobs, which must print the same. With `--json` objects must say the same, and `order` says yes to their
-    witnesses."""
+    jobs, which must print the same. With `--json` objects say the same, and `order` says yes to their witnesses."""
     numbers = run.numbers()
     for at in range(0, len(numbers), AT_ONCE):
         compare_test(run, numbers[at:at + AT_ONCE])
