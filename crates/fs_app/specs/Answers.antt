@@ -1,5 +1,5 @@
 -- What a command answers, of the files that it has read. What a file gives when it is read no definition says.
-use Rattle.std.specs.Prelude.{◌≡◌, ℕ, Bool, true, false, List, [], ◌∷◌, ◌++◌, Option, None, IfSome, IsSome, is_some, map, option_map, string_bytes, if◌then◌else◌}
+use Rattle.std.specs.Prelude.{◌≡◌, ℕ, Bool, true, false, List, [], ◌∷◌, ◌++◌, ◌||◌, Option, None, IfSome, IsSome, is_some, map, option_map, string_bytes, if◌then◌else◌}
 use Rattle.fs_app_io.specs.declared.source.Source.{Source}
 use Rattle.fs_app_io.specs.declared.status.Output.{Output}
 use Rattle.fs_app_io.specs.declared.status.Status.{Status}
@@ -18,6 +18,7 @@ use Rattle.fs_app_audit.specs.Audit.{IsAnew, IsAudited, IsWritten, IsFirstAnewFa
 use Rattle.fs_app_audit.specs.Blocks.{AreBlocks, are_named, blocks_status, blocks_text}
 use Rattle.fs_app_audit.specs.declared.blocks.Block.{Block}
 use Rattle.fs_app_audit_json.specs.Files.{AreObjectBlocks, objects_text}
+use Rattle.fs_app_audit_why.specs.Why.{IsAuditWhy}
 use Rattle.fs_kinds.specs.declared.fault.Fault.{Fault}
 use Rattle.fs_kinds.specs.declared.placement.Entry.{Entry}
 use Rattle.fs_kinds.specs.PriceTable.{PriceTable}
@@ -145,11 +146,20 @@ IsAuditFault true is_anew test prices limit fault = IsFirstWrittenFault test pri
 IsAuditFault false true test prices limit fault = IsFirstAnewFault test prices limit fault
 IsAuditFault false false test prices limit fault = IsFirstAuditFault test prices limit fault
 
--- what `audit` prints of one file
+-- what `audit` prints of one file, and what is told below it
 pub record AnswersOneAudit (audit : Audit) (name : List ℕ) (papers : Papers) (output : Output) : Type 0 where
   pub test_name : papers.test.name.now ≡ name
   pub prices_name : papers.prices.name.now ≡ audit.prices.now
-  pub answer : IsAuditText audit.write audit.anew papers.test.bytes.items papers.prices.bytes.items (string_bytes output.text) output.status
+  pub lines : List ℕ
+  pub below : List ℕ
+  pub answer : IsAuditText audit.write audit.anew papers.test.bytes.items papers.prices.bytes.items lines output.status
+  pub told : IsToldBy (telling_of audit.why)
+      (λ telling. IsAuditWhy telling papers.test.bytes.items papers.prices.bytes.items) below
+  pub text : string_bytes output.text ≡ lines ++ below
+
+-- Is a file to be written, or is something to be told of it? Then it is the only one.
+abbrev pub wants_one : Audit → Bool
+wants_one audit = audit.write || is_some (telling_of audit.why)
 
 -- and of these files, in their order: each block has the name of its file, and is that of some bytes at the prices that
 -- were read, or of a fault
@@ -170,17 +180,17 @@ pub record AnswersObjects (audit : Audit) (files : List Source) (papers : Papers
   pub text : string_bytes output.text ≡ objects_text blocks
   pub ends : output.status ≡ blocks_status blocks
 
--- Of the only file that the words name, or of several; nothing where a file is mended, or where a test is to be written
--- and there are several. Which files folders and lists stand for no definition says.
+-- Of the only file that the words name, or of several; nothing where a file is mended, or where one is wanted and there
+-- are several. Which files folders and lists stand for no definition says.
 pub data AnswersAudit (audit : Audit) (papers : Papers) (output : Output) : Type 0 where
   alone : (name : List ℕ) → map string_bytes audit.files.items ≡ name ∷ [] → AnswersOneAudit audit name papers output
       → AnswersAudit audit papers output
   objects : {files : List Source} → audit.json ≡ true → AnswersObjects audit files papers output
       → AnswersAudit audit papers output
-  several : {files : List Source} → audit.write ≡ false → AnswersBlocks audit files papers output
+  several : {files : List Source} → wants_one audit ≡ false → AnswersBlocks audit files papers output
       → AnswersAudit audit papers output
   mended : audit.in_place ≡ true → string_bytes output.text ≡ [] → AnswersAudit audit papers output
-  too_many : audit.write ≡ true → string_bytes output.text ≡ [] → output.status ≡ Failure
+  too_many : wants_one audit ≡ true → string_bytes output.text ≡ [] → output.status ≡ Failure
       → AnswersAudit audit papers output
 
 pub record AnswersCheck (check : Check) (papers : Papers) (output : Output) : Type 0 where

@@ -2,15 +2,20 @@
 
 ghost use Rattle.std.specs.Prelude.{◌≡◌, ◌≤◌, ◌∷◌, [], IfOk, IfErr, IfSome, map, string_bytes};
 ghost use Rattle.fs_app.specs.Answers.{AnswersAudit, AnswersBlocks, AnswersObjects, AnswersOneAudit};
-ghost use Rattle.fs_app.specs.Answers.{IsAuditFault, IsAuditText};
+ghost use Rattle.fs_app.specs.Answers.{IsAuditFault, IsAuditText, wants_one};
+ghost use Rattle.fs_app.specs.Telling.{IsToldBy};
+ghost use Rattle.fs_app_audit_why.specs.Why.{IsAuditWhy};
 
 use crate::failure::Failure;
 use crate::program::{Voice, refused, report};
+use crate::telling::{telling_of, with_below};
 use fs_app_audit::{Found, audit_file, blocks_of, blocks_output, run_anew, run_audit, run_written};
 use fs_app_audit_json::{FoundObject, object_of_file, objects_of, objects_output};
 use fs_app_audit_text::keeps;
+use fs_app_audit_why::why_audit;
 use fs_app_command_line::{Audit, MOST_NODES};
 use fs_app_files::{Papers, message_of_file};
+use fs_app_why_kinds::Telling;
 use fs_app_io::{Missing, Output, Source, Status, sources, tell, write_whole};
 use fs_kinds::{Fault, read_prices};
 use std::alloc::{AllocError, Global};
@@ -81,11 +86,18 @@ fn answer_said<'a, R: Files + Input + Eprint + AllocGlobal + Threads + Sync>(
             return answer_alone(rt, audit, word, papers);
         }
     }
-    if audit.write {
+    if wants_one(audit) {
         report(rt, &Failure::OneTest);
         return Ok(refused(rt.alloc()));
     }
     answer_files(rt, audit, &files, voice, papers)
+}
+
+/// Is a file to be written, or is something to be told of it? Then it is the only one.
+fn wants_one(audit: &Audit<'_>) -> bool
+    ensures { result ≡ wants_one audit.now }
+{
+    audit.write || telling_of(audit.why).is_some()
 }
 
 /// The only word, if there is one.
@@ -128,7 +140,29 @@ fn answer_alone<'a, R: Files + Input + AllocGlobal>(
     papers.read_test(rt, word)?;
     papers.read_prices(rt, audit.prices)?;
     let limit = limit_of(audit);
-    audited(rt.alloc(), papers, audit.write, audit.anew, limit)
+    let said = audited(rt.alloc(), papers, audit.write, audit.anew, limit)?;
+    let below = told_below(rt.alloc(), telling_of(audit.why), papers, limit)?;
+    let output = with_below(said, &below)?;
+    Ok(output)
+}
+
+/// What is told below what is said of the FENCEs of the test that was read, where that is asked for.
+fn told_below(
+    alloc: Global,
+    asked: Option<Telling>,
+    papers: &Papers<'_>,
+    limit: usize,
+) -> Result<String, Fault>
+    requires least { 1 ≤ limit }
+    requires most { limit ≤ 1000000 }
+    ensures { IfOk result (λ text. IsToldBy asked
+        (λ telling. IsAuditWhy telling papers.now.test.bytes.items papers.now.prices.bytes.items) (string_bytes text)) }
+{
+    let (test, prices) = (&papers.test.bytes, &papers.prices.bytes);
+    match asked {
+        Some(telling) => why_audit(alloc, telling, test, prices, limit),
+        None => Ok(String::new(alloc)),
+    }
 }
 
 /// Is it the name of a file, and not of standard input?

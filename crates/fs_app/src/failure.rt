@@ -26,8 +26,8 @@ pub(crate) enum Failure {
     /// A list of what tests are expected to be isn't of its form.
     #[error("{0}\n")]
     BadList(ListError),
-    /// `audit --write` was given several files, or `audit -i` was, or standard input.
-    #[error("error: `--write` takes one FILE, and `-i` one that isn't standard input\n")]
+    /// `audit --write` or `audit --why` was given several files, or `audit -i` was, or standard input.
+    #[error("error: `--write` and `--why` take one FILE, and `-i` one that isn't standard input\n")]
     OneTest,
     /// `audit -i` leaves the file as it is.
     #[error("note: the file stays as it is, since other changes than to its FENCEs would be needed\n")]

@@ -119,7 +119,8 @@ from 0, labels don't count. It must be a memory instruction with an earlier one 
 its hart. Kinds: r,r r,w r,rw w,r w,w w,rw rw,r rw,w rw,rw tso.
 
 With --sites fences are given to the sites that labels name (`rvfence solve --help`), as
-lock=r,r, and stand at all copies. Of prices each site is paid once.
+lock=r,r, and stand at all copies; with --free also as P0:3=w,w where no site is. Of prices
+each site is paid once.
 
 Exit status:
   0  the fenced test is on standard output
@@ -146,7 +147,8 @@ Reasons:
   atomic P0:0 P0:1          another hart stores between the paired lr.w and sc.w
   outcome                   the execution doesn't show the outcome
 
-With --sites fences are those of sites that labels name, as lock=r,r.
+With --sites fences are those of sites that labels name, as lock=r,r; with --free also as
+P0:3=w,w where no site is.
 
 Exit status:
   0  yes
@@ -211,9 +213,11 @@ each test out. A site's fence is paid once:
   site lock r,r
   site unlock rw,w
 
-Elsewhere no fence is placed. Below `none` stands first the file whose outcome is shown, even
-with rw,rw at every site. --json has sites in place of fences, and the file. --workers judges
-the tests side by side. PRICES have no weights then, and there is no --write, --why or --dot.
+Elsewhere no fence is placed; with --free each place before an access is a site of its own
+where no label names one, as P0:3 or, of several files, FILE:P0:3. Below `none` stands first
+the file whose outcome is shown, even with rw,rw at every site. --json has sites in place of
+fences, and the file. --workers judges the tests side by side. Weights in PRICES go by names
+of sites, as {\"lock\":3}. There is no --write, --why or --dot.
 
 PRICES offers kinds, each for 1 to 1000000, and rw,rw must be one of them, as in
 {\"w,w\":2,\"rw,rw\":10}. Slots may have weights that multiply the price.
@@ -276,6 +280,13 @@ some file, else 2, else 4, else 0. --write and -i take one file.
 
 With --json it prints a JSON object for each file, a line each, and nothing counts them. It has
 the costs of the first line, and `lines`; of a file with a fault it is that of `test --json`.
+
+With --why it is told below the lines why the FENCEs as advised rule the outcome out, and of
+each an execution without it; where the outcome can happen as written, an execution.
+
+With --sites the FENCEs are judged that stand right behind labels that name sites (`rvfence
+solve --help`), for all tests together; other FENCEs stay. A line has a site, a FENCE that
+copies of it have, or `none`, what is advised, and where these copies stand.
 
 Exit status:
   0  each FENCE is needed; with -i, the file is as advised
@@ -428,6 +439,15 @@ const PLACE_SITES_HELP: &str = "Place fences of labelled sites, as lock=r,r, at 
 const ORDER_SITES_HELP: &str =
     "Of labelled sites, as lock=r,r, at all copies; not with --why, --dot";
 
+const FREE_HELP: &str =
+    "With --sites: each place before an access without a site is one of its own";
+
+const AUDIT_WHY_HELP: &str =
+    "Tell why the advised FENCEs are enough, and an execution without each (=all, or =P1:6)";
+
+const AUDIT_SITES_HELP: &str =
+    "Judge FENCEs at labelled sites, in all tests given; not with --anew, --write, -i, --why, --jobs";
+
 const CHECK_SITES_HELP: &str =
     "Of labelled sites, and any number of files before PRICES; not with --why, --dot";
 
@@ -470,6 +490,7 @@ pub enum Task<'a> {
     Solve(Solve<'a>),
     Sites(Sites<'a>),
     Audit(Audit<'a>),
+    AuditSites(AuditSites<'a>),
     Check(Check<'a>),
     CheckSites(CheckSites<'a>),
     /// To print the script for this shell.
@@ -487,6 +508,7 @@ impl Task<'_> {
             Task::Check(check) => check.json,
             Task::CheckSites(check) => check.json,
             Task::Audit(audit) => audit.json,
+            Task::AuditSites(audit) => audit.json,
             Task::Place(_) | Task::Order(_) | Task::Completions(_) => false,
         }
     }
@@ -498,6 +520,7 @@ impl Task<'_> {
         let why = match self {
             Task::Test(test) => test.why,
             Task::Solve(solve) => solve.why,
+            Task::Audit(audit) => audit.why,
             Task::Check(check) => check.why,
             _ => Why::Untold,
         };
@@ -568,6 +591,8 @@ pub struct Place<'a> {
     pub prices: Option<&'a str>,
     /// Whether the fences are those of sites.
     pub sites: bool,
+    /// Whether each slot without a site is one of its own.
+    pub free: bool,
 }
 
 /// What `order` was asked for.
@@ -578,6 +603,8 @@ pub struct Order<'a> {
     pub fences: Vec<String>,
     /// Whether they are those of sites.
     pub sites: bool,
+    /// Whether each slot without a site is one of its own.
+    pub free: bool,
     /// Whether the execution is to be told below a yes.
     pub why: bool,
     /// The folder for a picture of it.
@@ -610,6 +637,8 @@ pub struct Solve<'a> {
 pub struct Sites<'a> {
     pub files: Vec<String>,
     pub prices: &'a str,
+    /// Whether each slot without a site is one of its own.
+    pub free: bool,
     /// How many threads judge tests: from 1 to 16.
     pub workers: u8,
     /// How many nodes each plan may make: from 1 to 1,000,000.
@@ -637,6 +666,19 @@ pub struct Audit<'a> {
     pub jobs: u8,
     /// How many nodes the search may make: from 1 to 1,000,000.
     pub nodes: u32,
+    /// What is to be told below the lines.
+    pub why: Why<'a>,
+}
+
+/// What `audit --sites` was asked for.
+#[derive(Drop)]
+pub struct AuditSites<'a> {
+    pub files: Vec<String>,
+    pub prices: &'a str,
+    /// Whether JSON is to be printed.
+    pub json: bool,
+    /// How many nodes each plan may make: from 1 to 1,000,000.
+    pub nodes: u32,
 }
 
 /// What `check` was asked for.
@@ -659,6 +701,8 @@ pub struct CheckSites<'a> {
     pub files: Vec<String>,
     pub prices: &'a str,
     pub certificate: &'a str,
+    /// Whether each slot without a site is one of its own.
+    pub free: bool,
     /// Whether JSON is to be printed.
     pub json: bool,
 }
@@ -723,6 +767,7 @@ fn task_of<'a>(alloc: Global, name: &str, found: &ArgMatches<'a>) -> Result<Task
         "order" => Ok(Task::Order(order_of(alloc, found)?)),
         "solve" if found.get_flag("sites") => Ok(Task::Sites(sites_of(alloc, found)?)),
         "solve" => Ok(Task::Solve(solve_of(found))),
+        "audit" if found.get_flag("sites") => Ok(Task::AuditSites(audit_sites_of(alloc, found)?)),
         "audit" => Ok(Task::Audit(audit_of(alloc, found)?)),
         "check" if found.get_flag("sites") => Ok(Task::CheckSites(check_sites_of(alloc, found)?)),
         "check" => Ok(Task::Check(check_of(found))),
@@ -810,6 +855,7 @@ fn place_of<'a>(alloc: Global, found: &ArgMatches<'a>) -> Result<Place<'a>, Allo
         fences: fences_of(alloc, found)?,
         prices: found.get_str("prices"),
         sites: found.get_flag("sites"),
+        free: found.get_flag("free"),
     })
 }
 
@@ -819,6 +865,7 @@ fn order_of<'a>(alloc: Global, found: &ArgMatches<'a>) -> Result<Order<'a>, Allo
         witness: found.get_str("WITNESS").unwrap_or(""),
         fences: fences_of(alloc, found)?,
         sites: found.get_flag("sites"),
+        free: found.get_flag("free"),
         why: found.get_flag("why"),
         dot: found.get_str("dot"),
     })
@@ -842,6 +889,7 @@ fn sites_of<'a>(alloc: Global, found: &ArgMatches<'a>) -> Result<Sites<'a>, Allo
     Ok(Sites {
         files: words_of(alloc, found, "FILE")?,
         prices: found.get_str("PRICES").unwrap_or(""),
+        free: found.get_flag("free"),
         workers: found.get_one::<u8>("workers").unwrap_or(ONE_WORKER),
         nodes: found.get_one::<u32>("nodes").unwrap_or(MOST_NODES),
         certificate: found.get_str("cert"),
@@ -858,6 +906,16 @@ fn audit_of<'a>(alloc: Global, found: &ArgMatches<'a>) -> Result<Audit<'a>, Allo
         in_place: found.get_flag("in-place"),
         json: found.get_flag("json"),
         jobs: found.get_one::<u8>("jobs").unwrap_or(ONE_WORKER),
+        nodes: found.get_one::<u32>("nodes").unwrap_or(MOST_NODES),
+        why: why_of(found),
+    })
+}
+
+fn audit_sites_of<'a>(alloc: Global, found: &ArgMatches<'a>) -> Result<AuditSites<'a>, AllocError> {
+    Ok(AuditSites {
+        files: words_of(alloc, found, "FILE")?,
+        prices: found.get_str("PRICES").unwrap_or(""),
+        json: found.get_flag("json"),
         nodes: found.get_one::<u32>("nodes").unwrap_or(MOST_NODES),
     })
 }
@@ -884,6 +942,7 @@ fn check_sites_of<'a>(alloc: Global, found: &ArgMatches<'a>) -> Result<CheckSite
         files: copies_of(alloc, files)?,
         prices,
         certificate: found.get_str("CERTIFICATE").unwrap_or(""),
+        free: found.get_flag("free"),
         json: found.get_flag("json"),
     })
 }
@@ -983,7 +1042,9 @@ enum Form {
     Shell,
     /// A word after `--` by itself.
     Flag,
-    /// The same, or its first letter after `-`.
+    /// The same, only beside `--sites`.
+    OfSites,
+    /// A word after `--` by itself, or its first letter after `-`.
     Letter,
     /// A word after `--`, with a value.
     Option,
@@ -1004,7 +1065,7 @@ struct Parameter {
     help: &'static str,
 }
 
-const PARAMETERS: [Parameter; 47] = [
+const PARAMETERS: [Parameter; 53] = [
     Parameter {
         command: "test",
         name: "FILE",
@@ -1067,6 +1128,13 @@ const PARAMETERS: [Parameter; 47] = [
         form: Form::Flag,
         value: "",
         help: SITES_HELP,
+    },
+    Parameter {
+        command: "solve",
+        name: "free",
+        form: Form::OfSites,
+        value: "",
+        help: FREE_HELP,
     },
     Parameter {
         command: "solve",
@@ -1174,6 +1242,20 @@ const PARAMETERS: [Parameter; 47] = [
         help: NODES_HELP,
     },
     Parameter {
+        command: "audit",
+        name: "why",
+        form: Form::Optional,
+        value: "WHICH",
+        help: AUDIT_WHY_HELP,
+    },
+    Parameter {
+        command: "audit",
+        name: "sites",
+        form: Form::Flag,
+        value: "",
+        help: AUDIT_SITES_HELP,
+    },
+    Parameter {
         command: "states",
         name: "FILE",
         form: Form::Words,
@@ -1237,6 +1319,13 @@ const PARAMETERS: [Parameter; 47] = [
         help: PLACE_SITES_HELP,
     },
     Parameter {
+        command: "place",
+        name: "free",
+        form: Form::OfSites,
+        value: "",
+        help: FREE_HELP,
+    },
+    Parameter {
         command: "order",
         name: "FILE",
         form: Form::Word,
@@ -1263,6 +1352,13 @@ const PARAMETERS: [Parameter; 47] = [
         form: Form::Flag,
         value: "",
         help: ORDER_SITES_HELP,
+    },
+    Parameter {
+        command: "order",
+        name: "free",
+        form: Form::OfSites,
+        value: "",
+        help: FREE_HELP,
     },
     Parameter {
         command: "order",
@@ -1328,6 +1424,13 @@ const PARAMETERS: [Parameter; 47] = [
         help: CHECK_SITES_HELP,
     },
     Parameter {
+        command: "check",
+        name: "free",
+        form: Form::OfSites,
+        value: "",
+        help: FREE_HELP,
+    },
+    Parameter {
         command: "completions",
         name: "SHELL",
         form: Form::Shell,
@@ -1343,7 +1446,7 @@ struct Conflict {
     other: &'static str,
 }
 
-const CONFLICTS: [Conflict; 18] = [
+const CONFLICTS: [Conflict; 27] = [
     Conflict {
         command: "test",
         name: "why",
@@ -1403,6 +1506,51 @@ const CONFLICTS: [Conflict; 18] = [
         command: "audit",
         name: "json",
         other: "in-place",
+    },
+    Conflict {
+        command: "audit",
+        name: "why",
+        other: "json",
+    },
+    Conflict {
+        command: "audit",
+        name: "why",
+        other: "anew",
+    },
+    Conflict {
+        command: "audit",
+        name: "why",
+        other: "write",
+    },
+    Conflict {
+        command: "audit",
+        name: "why",
+        other: "in-place",
+    },
+    Conflict {
+        command: "audit",
+        name: "sites",
+        other: "anew",
+    },
+    Conflict {
+        command: "audit",
+        name: "sites",
+        other: "write",
+    },
+    Conflict {
+        command: "audit",
+        name: "sites",
+        other: "in-place",
+    },
+    Conflict {
+        command: "audit",
+        name: "sites",
+        other: "why",
+    },
+    Conflict {
+        command: "audit",
+        name: "sites",
+        other: "jobs",
     },
     Conflict {
         command: "states",
@@ -1512,7 +1660,7 @@ fn with_voice<'a>(alloc: Global, command: Command<'a>) -> Result<Command<'a>, Al
     command.arg(flag(alloc, "verbose", VERBOSE_HELP).short('v'))
 }
 
-/// The argument, and what it isn't given with.
+/// The argument, what it isn't given with, and what it isn't given without.
 fn argument_of<'a>(
     alloc: Global,
     parameter: &Parameter,
@@ -1524,7 +1672,10 @@ fn argument_of<'a>(
             argument = argument.conflicts_with(conflict.other)?;
         }
     }
-    Ok(argument)
+    match parameter.form {
+        Form::OfSites => Ok(argument.requires_arg("sites")?),
+        _ => Ok(argument),
+    }
 }
 
 fn argument<'a>(alloc: Global, parameter: &Parameter, many: bool) -> Arg<'a> {
@@ -1536,7 +1687,7 @@ fn argument<'a>(alloc: Global, parameter: &Parameter, many: bool) -> Arg<'a> {
         Form::Checked => one_or_priced(alloc, many),
         Form::Fences => Arg::new(alloc, name).help(help).num_args(0..),
         Form::Shell => required(alloc, name, help).value_parser(SHELLS),
-        Form::Flag => flag(alloc, name, help),
+        Form::Flag | Form::OfSites => flag(alloc, name, help),
         Form::Letter => flag(alloc, name, help).short('i'),
         Form::Option => option(alloc, name, parameter.value, help),
         Form::Optional => optional(alloc, name, parameter.value, help),

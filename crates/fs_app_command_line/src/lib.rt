@@ -5,7 +5,7 @@ mod command;
 mod completions;
 
 pub use command::{
-    Audit, Check, CheckSites, Expectations, MOST_NODES, MOST_WORKERS, Order, Place, Request, Sites,
-    Solve, States, Task, Test, Why, completion_script, read_request,
+    Audit, AuditSites, Check, CheckSites, Expectations, MOST_NODES, MOST_WORKERS, Order, Place,
+    Request, Sites, Solve, States, Task, Test, Why, completion_script, read_request,
 };
 pub use completions::Shell;

@@ -107,6 +107,11 @@ dashes ink = []
 abbrev pub reach : (is_near : Bool) → List ℕ
 reach is_near = if is_near then codes ", weight=20];\n" else codes ", constraint=false];\n"
 
+-- Graphviz finds a place for what stands at an arrow; of those that move nothing it does so afterwards, since within a
+-- rank it would fail
+abbrev pub label_word : (is_near : Bool) → List ℕ
+label_word is_near = if is_near then codes " [label=\" " else codes " [xlabel=\" "
+
 abbrev pub are_ends : Edge → Node → Node → Bool
 are_ends edge a b = is_next a b && leads a.name b.name edge
 
@@ -124,7 +129,7 @@ module _ (nodes : List Node) where
 
   abbrev pub edge_text : Edge → List ℕ
   edge_text edge =
-      pair_text edge.from edge.to ++ (codes " [label=\" " ++ (quoted edge.label ++ (codes " \", " ++ style_text edge)))
+      pair_text edge.from edge.to ++ (label_word (is_near edge) ++ (quoted edge.label ++ (codes " \", " ++ style_text edge)))
 
 -- ---- all of it
 

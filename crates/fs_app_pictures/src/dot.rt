@@ -3,7 +3,7 @@
 ghost use Rattle.std.specs.Prelude.{◌≡◌, ◌++◌, IfOk, OnOk, string_bytes};
 ghost use Rattle.std.specs.List.{flat_map, list_any};
 ghost use Rattle.fs_app_pictures.specs.Dot.{are_ends, cluster_at, cluster_text, color, dashes, dot_text, edge_text};
-ghost use Rattle.fs_app_pictures.specs.Dot.{grey, head_text, is_behind, is_near, is_next, joins, leads, name_in};
+ghost use Rattle.fs_app_pictures.specs.Dot.{grey, head_text, is_behind, is_near, is_next, joins, label_word, leads, name_in};
 ghost use Rattle.fs_app_pictures.specs.Dot.{node_of, node_text, order_between, order_from, order_style, order_text};
 ghost use Rattle.fs_app_pictures.specs.Dot.{pair_text, rank_at, rank_text, reach, same_name, starts_near, style_text};
 
@@ -279,6 +279,18 @@ fn reach(is_near: bool) -> &'static str
     }
 }
 
+/// Graphviz finds a place for what stands at an arrow; of those that move nothing it does so afterwards, since within a
+/// rank it would fail.
+fn label_word(is_near: bool) -> &'static str
+    ensures { result.now ≡ label_word is_near }
+{
+    if is_near {
+        " [label=\" "
+    } else {
+        " [xlabel=\" "
+    }
+}
+
 fn are_ends(edge: &Edge, a: &Node, b: &Node) -> bool
     ensures { result ≡ are_ends edge.now a.now b.now }
 {
@@ -325,8 +337,9 @@ fn edge_text(alloc: Global, nodes: &[Node], edge: &Edge) -> Result<String, Alloc
     let label = quoted(alloc, edge.label.as_str())?;
     let style = style_text(alloc, nodes, edge)?;
     format!(in alloc;
-        "{} [label=\" {} \", {}",
+        "{}{}{} \", {}",
         pair.as_str(),
+        label_word(is_near(nodes, edge)),
         label.as_str(),
         style.as_str()
     )

@@ -424,8 +424,8 @@ fn above_text(
 }
 
 /// The kinds of contradictions in print: those that are told, and how many there are besides. The square of the kinds,
-/// times that of the fences in each.
-pub(crate) fn contradictions_text(
+/// times that of the fences in each. The error is want of memory.
+pub fn contradictions_text(
     alloc: Global,
     test: &Test,
     lines: &[List<usize>],

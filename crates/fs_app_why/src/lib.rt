@@ -19,8 +19,11 @@ mod without;
 mod words;
 
 pub use answered::why_certified;
+pub use contradictions::contradictions_text;
 pub use forbidden::inferred_kinds;
 pub use fs_app_why_kinds::Telling;
 pub use order::{lines_of, why_order};
 pub use possible::{no_fences, told, why_allowed};
-pub use ruled_out::{forbidden_text, verdict_on, why_forbidden};
+pub use ruled_out::{forbidden_text, lacks_written, unwritten_text, verdict_on, why_forbidden};
+pub use without::asked;
+pub use words::place_text;

@@ -129,7 +129,7 @@ fn is_written(instr: Option<Instr>) -> bool
 }
 
 /// Is a fence asked for where the test has none?
-fn lacks_written(telling: Telling, test: &Test) -> bool
+pub fn lacks_written(telling: Telling, test: &Test) -> bool
     ensures { result ≡ lacks_written telling test.now }
 {
     match telling {
@@ -138,8 +138,8 @@ fn lacks_written(telling: Telling, test: &Test) -> bool
     }
 }
 
-/// That it has none there.
-fn unwritten_text(alloc: Global, telling: Telling) -> Result<String, AllocError>
+/// The line that says that it has none there; nothing where none is asked for. The error is want of memory.
+pub fn unwritten_text(alloc: Global, telling: Telling) -> Result<String, AllocError>
     ensures { IfOk result (λ text. string_bytes text ≡ unwritten_text telling) }
 {
     match telling {

@@ -190,7 +190,7 @@ fn is_passed(telling: Telling, slot: Slot) -> bool
 }
 
 /// The slot, as one without a fence where it isn't asked for.
-fn asked(telling: Telling, entry: Entry) -> Entry
+pub fn asked(telling: Telling, entry: Entry) -> Entry
     ensures { result ≡ asked telling entry }
 {
     let Entry { slot, kind } = entry;

@@ -61,8 +61,8 @@ pub(crate) fn stores(instr: &Instr) -> bool
     )
 }
 
-/// The operation with its line, as `P0:1 (line 14)`.
-pub(crate) fn place_text(
+/// The operation with its line, as `P0:1 (line 14)`. The error is want of memory.
+pub fn place_text(
     alloc: Global,
     lines: &[List<usize>],
     name: OperationName,

@@ -1,0 +1,4 @@
+pub mod AsAdvised
+pub mod Needed
+pub mod Told
+pub mod Answered

@@ -1,0 +1,2 @@
+pub mod Advised
+pub mod Why
