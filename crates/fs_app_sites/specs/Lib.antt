@@ -1,3 +1,4 @@
+pub mod SitePrices
 pub mod Sites
 pub mod Asked
 pub mod Printed

@@ -1,16 +1,17 @@
 //! What a file holds: a test, and the labels in it that name sites.
 
-ghost use Rattle.std.specs.Prelude.{◌≡◌, ◌≢◌, true, map, IfOk, IfErr};
+ghost use Rattle.std.specs.Prelude.{◌≡◌, ◌≢◌, [], true, map, IfOk, IfErr};
 ghost use Rattle.std.specs.Arc.{arc_value};
 ghost use Rattle.std.specs.List.{list_all};
 ghost use Rattle.fs_kinds.specs.Slot.{is_before, is_rising};
 ghost use Rattle.fs_kinds.specs.declared.fault.Fault.TheVariants.{Memory, Unmatched};
 ghost use Rattle.fs_litmus.specs.Reads.{Reads};
 ghost use Rattle.fs_litmus_sites.specs.SiteLabels.{site_label_of};
-ghost use Rattle.fs_model.specs.Test.{IsTest};
-ghost use Rattle.fs_app_sites.specs.Sites.{HaveCopies, IsContent, IsFileFault, IsLabelsFault, copy_of, copy_value};
-ghost use Rattle.fs_app_sites.specs.Sites.{slots_of};
+ghost use Rattle.fs_model.specs.Test.{IsBounded, IsTest};
+ghost use Rattle.fs_app_sites.specs.Sites.{HaveAllCopies, HaveCopies, IsContent, IsFileFault, IsLabelsFault};
+ghost use Rattle.fs_app_sites.specs.Sites.{all_copies, copy_of, copy_value, slots_of};
 
+use crate::free::add_slots;
 use fs_kinds::{Fault, List, Slot};
 use fs_litmus::{Test, read_test};
 use fs_litmus_sites::{SiteLabel, read_site_labels};
@@ -23,6 +24,13 @@ use std::sync::Arc;
 pub struct File {
     pub name: String,
     pub bytes: Vec<u8>,
+}
+
+/// The tests of a library, and whether each slot at which no label of a site stands is a site of its own.
+#[derive(Drop)]
+pub struct Tests {
+    pub files: List<File>,
+    pub is_free: bool,
 }
 
 /// A copy of a site: before the instruction of this slot stands the fence of the site of this name.
@@ -61,19 +69,24 @@ impl Model for Content {
 pub fn check_file(alloc: Global, bytes: &[u8]) -> Result<(), Fault>
     ensures { IfErr result (λ f. f ≢ Memory → IsFileFault bytes.now f) }
 {
-    let _content = read_content(alloc, bytes)?;
+    let _content = read_content(alloc, bytes, "", false)?;
     Ok(())
 }
 
-/// What a file holds.
-pub(crate) fn read_content(alloc: Global, bytes: &[u8]) -> Result<Content, Fault>
-    ensures ok { IfOk result (IsContent bytes.now) }
+/// What a file holds. Behind this prefix stands the name of a slot that is a site of its own.
+pub(crate) fn read_content(
+    alloc: Global,
+    bytes: &[u8],
+    prefix: &str,
+    is_free: bool,
+) -> Result<Content, Fault>
+    ensures ok { IfOk result (IsContent is_free prefix.now bytes.now) }
     ensures test { IfOk result (λ content. IsTest content.test) }
     ensures rising { IfOk result (λ content. is_rising (slots_of content.copies) ≡ true) }
     ensures err { IfErr result (λ f. f ≢ Memory → IsFileFault bytes.now f) }
 {
     let test = read_test(alloc, bytes)?;
-    let copies = read_copies(alloc, bytes)?;
+    let copies = copies_in(alloc, bytes, &test, prefix, is_free)?;
     let test = shared(alloc, test)?;
     Ok(Content { test, copies })
 }
@@ -92,13 +105,84 @@ pub fn read_copies(alloc: Global, bytes: &[u8]) -> Result<List<SiteCopy>, Fault>
     ensures rising { IfOk result (λ copies. is_rising (slots_of (map copy_value copies)) ≡ true) }
     ensures err { IfErr result (λ f. f ≢ Memory → IsLabelsFault bytes.now f) }
 {
+    in_order(named_copies(alloc, bytes)?)
+}
+
+/// The copies of sites in a file, of which `read_test` has read this test, in the order of their slots. Where `is_free`
+/// is set each slot of the test at which no label of a site stands is a site of its own, whose name is the slot's, as
+/// `P0:3`. F6 in the line of a second site label at a place; or F19. It costs what `check_file` costs, and each such
+/// slot is held against all copies.
+pub fn read_all_copies(
+    alloc: Global,
+    bytes: &[u8],
+    test: &Test,
+    is_free: bool,
+) -> Result<List<SiteCopy>, Fault>
+    requires { IsBounded test.now }
+    ensures ok { IfOk result (λ copies. HaveAllCopies is_free [] bytes.now test.now (map copy_value copies)) }
+    ensures rising { IfOk result (λ copies. is_rising (slots_of (map copy_value copies)) ≡ true) }
+    ensures err { IfErr result (λ f. f ≢ Memory → IsLabelsFault bytes.now f) }
+{
+    copies_in(alloc, bytes, test, "", is_free)
+}
+
+/// The same, where the names of such sites have this prefix.
+fn copies_in(
+    alloc: Global,
+    bytes: &[u8],
+    test: &Test,
+    prefix: &str,
+    is_free: bool,
+) -> Result<List<SiteCopy>, Fault>
+    requires { IsBounded test.now }
+    ensures ok { IfOk result (λ copies.
+        HaveAllCopies is_free prefix.now bytes.now test.now (map copy_value copies)) }
+    ensures rising { IfOk result (λ copies. is_rising (slots_of (map copy_value copies)) ≡ true) }
+    ensures err { IfErr result (λ f. f ≢ Memory → IsLabelsFault bytes.now f) }
+{
+    let named = named_copies(alloc, bytes)?;
+    in_order(all_copies(alloc, named, test, prefix, is_free)?)
+}
+
+/// The copies that labels name.
+fn named_copies(alloc: Global, bytes: &[u8]) -> Result<Vec<SiteCopy>, Fault>
+    ensures ok { IfOk result (λ copies. HaveCopies bytes.now (map copy_value copies.items)) }
+    ensures err { IfErr result (λ f. f ≢ Memory → IsLabelsFault bytes.now f) }
+{
     let labels = read_site_labels(alloc, bytes)?;
-    let copies = copies_of(alloc, &labels)?;
+    copies_of(alloc, &labels)
+}
+
+/// The copies, if their slots rise.
+fn in_order(copies: Vec<SiteCopy>) -> Result<List<SiteCopy>, Fault>
+    ensures ok { IfOk result (λ list. list ≡ copies.items) }
+    ensures rising { IfOk result (λ list. is_rising (slots_of (map copy_value list)) ≡ true) }
+    ensures err { IfErr result (λ f. f ≡ Unmatched) }
+{
     if are_rising(&copies) {
         Ok(List::new(copies))
     } else {
         Err(Fault::Unmatched)
     }
+}
+
+/// The copies, and where `is_free` is set those of the slots of the test at which none stands.
+fn all_copies(
+    alloc: Global,
+    mut copies: Vec<SiteCopy>,
+    test: &Test,
+    prefix: &str,
+    is_free: bool,
+) -> Result<Vec<SiteCopy>, Fault>
+    requires { IsBounded test.now }
+    ensures ok { IfOk result (λ all. map copy_value all.items
+        ≡ all_copies is_free prefix.now test.now (map copy_value copies.items)) }
+    ensures err { IfErr result (λ f. f ≡ Memory) }
+{
+    if is_free {
+        add_slots(alloc, &mut copies, test, prefix)?;
+    }
+    Ok(copies)
 }
 
 /// The copies that the labels name.
@@ -127,7 +211,8 @@ fn copy_of(alloc: Global, label: &SiteLabel<'_>) -> Result<SiteCopy, Fault>
     })
 }
 
-fn is_before(slot: Slot, other: Slot) -> bool
+/// Does the slot come before the other?
+pub(crate) fn is_before(slot: Slot, other: Slot) -> bool
     ensures { result ≡ is_before slot other }
 {
     slot.hart < other.hart || slot.hart == other.hart && slot.at < other.at

@@ -1,9 +1,10 @@
 //! What `solve --sites` answers, from the bytes of tests whose labels name sites to the text that is printed: one fence
-//! for a site in all its copies, so that no test's outcome is left.
+//! for a site in all its copies, so that no test's outcome is left. With `--free` slots are sites of their own.
 #![tactic(auto)]
 
 mod ask;
 mod content;
+mod free;
 mod names;
 mod prices;
 mod question;
@@ -11,10 +12,10 @@ mod report;
 mod solve;
 
 pub use ask::{Asked, read_question};
-pub use content::{File, SiteCopy, check_file, read_copies};
+pub use content::{File, SiteCopy, Tests, check_file, read_all_copies, read_copies};
 pub use fs_sites_workers::Limits;
 pub use names::add_copies;
-pub use prices::{check_prices, read_site_prices};
-pub use question::{MOST_SITES, key, places_of};
+pub use prices::{SitePrices, check_prices, read_site_prices};
+pub use question::{MOST_SITES, key, offers_of, places_of};
 pub use report::{answer_text, answer_value};
 pub use solve::{Solved, first_at_fault, run_sites, solved_of};

@@ -1,18 +1,15 @@
 //! The question that files and prices ask.
 
-ghost use Rattle.std.specs.Prelude.{◌≡◌, ◌≤◌, ◌<◌, map, length, string_bytes, IfOk, All, true, IsOkUnless};
-ghost use Rattle.std.specs.List.{range_with_len};
-ghost use Rattle.fs_kinds.specs.PriceTable.{IsPriceTable};
-ghost use Rattle.fs_kinds.specs.Slot.{is_rising};
+ghost use Rattle.std.specs.Prelude.{◌≡◌, ◌≤◌, ◌<◌, map, length, string_bytes, IfOk, IsOkUnless};
 ghost use Rattle.fs_kinds.specs.declared.fault.Fault.TheVariants.{Memory};
-ghost use Rattle.fs_model.specs.Test.{IsTest};
-ghost use Rattle.fs_app_sites.specs.Sites.{copy_value, key, offer_of, part_of, place_of, question_of};
+ghost use Rattle.fs_app_sites.specs.Sites.{copy_value, key, offer_of, offers_of, part_of, place_of, question_of};
 ghost use Rattle.fs_app_sites.specs.Sites.{most_sites, places_of};
 
 use crate::content::{Content, SiteCopy};
 use crate::names::number_of;
+use crate::prices::SitePrices;
 use fs_board_offers::{Offer, Offers};
-use fs_kinds::{Fault, Kind, List, Prices, Slot};
+use fs_kinds::{Fault, Kind, List, Slot};
 use fs_sites::{Part, Place, Question};
 use std::alloc::{AllocError, Global};
 use std::sync::Arc;
@@ -31,47 +28,56 @@ pub fn key(number: usize) -> Slot
     }
 }
 
-/// At a site each kind that has a price, for this price.
-fn offer_of(prices: &Prices, number: usize) -> Offer
+/// At a site of this number and name each kind that has a price, for its price times the site's weight.
+fn offer_of(prices: &SitePrices, number: usize, name: &str) -> Offer
     requires { number < most_sites }
-    ensures { result ≡ offer_of prices.now number }
+    ensures { result ≡ offer_of prices.now (number, name.now) }
 {
     Offer {
         slot: key(number),
         costs: [
-            prices.of(Kind::RR),
-            prices.of(Kind::RW),
-            prices.of(Kind::RRw),
-            prices.of(Kind::WR),
-            prices.of(Kind::WW),
-            prices.of(Kind::WRw),
-            prices.of(Kind::RwR),
-            prices.of(Kind::RwW),
-            prices.of(Kind::RwRw),
-            prices.of(Kind::Tso),
+            prices.cost_at(name, Kind::RR),
+            prices.cost_at(name, Kind::RW),
+            prices.cost_at(name, Kind::RRw),
+            prices.cost_at(name, Kind::WR),
+            prices.cost_at(name, Kind::WW),
+            prices.cost_at(name, Kind::WRw),
+            prices.cost_at(name, Kind::RwR),
+            prices.cost_at(name, Kind::RwW),
+            prices.cost_at(name, Kind::RwRw),
+            prices.cost_at(name, Kind::Tso),
         ],
         written: None,
     }
 }
 
-/// What may stand at so many sites.
-fn offer_list(alloc: Global, prices: &Prices, sites: usize) -> Result<Vec<Offer>, AllocError>
-    requires { sites ≤ most_sites }
-    ensures { IfOk result (λ offers. offers.items ≡ map (offer_of prices.now) (range_with_len 0 sites)) }
+/// What may stand at the sites of these names.
+fn offer_list(
+    alloc: Global,
+    prices: &SitePrices,
+    names: &[String],
+) -> Result<Vec<Offer>, AllocError>
+    requires { length names.now ≤ most_sites }
+    ensures { IfOk result (λ offers. offers.items ≡ offers_of prices.now (map string_bytes names.now)) }
 {
-    (0..sites)
-        .map(|number| offer_of(prices, number))
-        .collect(alloc)
+    let mut offers = Vec::new(alloc);
+    for (number, name) in names.iter().enumerate() {
+        offers.push(offer_of(prices, number, name.as_str()))?;
+    }
+    Ok(offers)
 }
 
-/// The same, in the order of the sites' keys.
-fn offers_of(alloc: Global, prices: &Prices, sites: usize) -> Result<Offers, AllocError>
-    requires { sites ≤ most_sites }
-    ensures value { IfOk result (λ offers. offers ≡ map (offer_of prices.now) (range_with_len 0 sites)) }
-    ensures table { IsPriceTable prices.now }
+/// What may stand at the sites of these names, in the order of their keys, and what it costs there, once for all copies.
+/// Fails only for want of memory.
+pub fn offers_of(
+    alloc: Global,
+    prices: &SitePrices,
+    names: &[String],
+) -> Result<Offers, AllocError>
+    requires { length names.now ≤ most_sites }
+    ensures { IfOk result (λ offers. offers ≡ offers_of prices.now (map string_bytes names.now)) }
 {
-    let _table = prices.of(Kind::RwRw);
-    let offers = offer_list(alloc, prices, sites)?;
+    let offers = offer_list(alloc, prices, names)?;
     Ok(Offers::new(offers))
 }
 
@@ -128,16 +134,14 @@ pub(crate) fn question_of(
     alloc: Global,
     contents: &[Content],
     names: &[String],
-    prices: &Prices,
+    prices: &SitePrices,
 ) -> Result<Question, Fault>
     requires { length names.now ≤ most_sites }
     ensures value { IfOk result (λ q. q ≡ question_of prices.now (map string_bytes names.now) contents.now) }
-    ensures table { IsPriceTable prices.now }
     ensures err { IsOkUnless result Memory }
 {
-    let _table = prices.of(Kind::RwRw);
     let parts = parts_of(alloc, names, contents)?;
-    let offers = offers_of(alloc, prices, names.len())?;
+    let offers = offers_of(alloc, prices, names)?;
     Ok(Question {
         parts: List::new(parts),
         offers,

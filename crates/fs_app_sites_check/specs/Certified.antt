@@ -3,19 +3,19 @@ use Rattle.std.specs.Prelude.{Bool, ℕ, List, ◌++◌, false}
 use Rattle.fs_app_io.specs.declared.status.Status.{Status}
 use Rattle.fs_app_io.specs.declared.status.Status.TheVariants.{Success}
 use Rattle.fs_app_check.specs.Check.{yes_line}
-use Rattle.fs_app_sites.specs.declared.content.File.{File}
+use Rattle.fs_app_sites.specs.declared.content.Tests.{Tests}
 use Rattle.fs_app_sites.specs.Printed.{answer_text}
 use Rattle.fs_app_sites.specs.Sites.{names_of}
 use Rattle.fs_app_sites.specs.Solved.{IsSolved}
 use Rattle.fs_app_sites_check.specs.Checked.{IsSitesChecked}
 
 -- `check --sites` accepts these bytes, and prints `yes` and these lines
-abbrev pub IsAccepted : List File → (prices certificate lines : List ℕ) → Type 0
-IsAccepted files prices certificate lines =
-    (line : List ℕ) × IsSitesChecked files prices certificate (yes_line ++ lines) line Success
+abbrev pub IsAccepted : Tests → (prices certificate lines : List ℕ) → Type 0
+IsAccepted tests prices certificate lines =
+    (line : List ℕ) × IsSitesChecked tests prices certificate (yes_line ++ lines) line Success
 
 -- the answer is printed, and `check --sites` accepts these bytes with the lines of that answer
-pub record IsCertified (is_json : Bool) (files : List File) (prices text : List ℕ) (status : Status)
+pub record IsCertified (is_json : Bool) (tests : Tests) (prices text : List ℕ) (status : Status)
     (certificate : List ℕ) : Type 0 where
-  pub solved : IsSolved is_json files prices text status
-  pub accepted : IsAccepted files prices certificate (answer_text false files (names_of solved.contents) solved.found)
+  pub solved : IsSolved is_json tests prices text status
+  pub accepted : IsAccepted tests prices certificate (answer_text false tests (names_of solved.contents) solved.found)

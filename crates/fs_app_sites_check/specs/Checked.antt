@@ -18,7 +18,7 @@ use Rattle.fs_sites_check.specs.declared.verdict.SitesReason.{SitesReason}
 use Rattle.fs_sites_check.specs.declared.verdict.SitesReason.TheVariants as reason
 use Rattle.fs_sites_check.specs.declared.verdict.SitesVerdict.{SitesVerdict}
 use Rattle.fs_sites_check.specs.declared.verdict.SitesVerdict.TheVariants.{Yes, No}
-use Rattle.fs_app_sites.specs.declared.content.File.{File}
+use Rattle.fs_app_sites.specs.declared.content.Tests.{Tests}
 use Rattle.fs_app_sites.specs.Asked.{IsAsked, IsFirstAskedFault}
 use Rattle.fs_app_sites.specs.Printed.{answer_text, value_of}
 use Rattle.fs_app_sites_check.specs.Kept.{KeepsSaid}
@@ -39,10 +39,10 @@ no_value why =
     object (members_of ((codes "reason", string (reason_words why)) ∷ (codes "valid", boolean false) ∷ []))
 
 -- `yes`, and below it the answer as `solve --sites` prints it; and its object in a line
-pub record PrintsYes (files : List File) (names : List (List ℕ)) (found : Answer) (text line : List ℕ)
+pub record PrintsYes (tests : Tests) (names : List (List ℕ)) (found : Answer) (text line : List ℕ)
     (status : Status) : Type 0 where
-  pub shown : text ≡ yes_line ++ answer_text false files names found
-  pub told : line ≡ json_line (yes_value (value_of files names found))
+  pub shown : text ≡ yes_line ++ answer_text false tests names found
+  pub told : line ≡ json_line (yes_value (value_of tests names found))
   pub ends : status ≡ Success
 
 -- `no: ` with the reason; and its object in a line
@@ -51,35 +51,35 @@ pub record PrintsNo (why : SitesReason) (text line : List ℕ) (status : Status)
   pub told : line ≡ json_line (no_value why)
   pub ends : status ≡ Denied
 
-abbrev pub PrintsVerdict : List File → List (List ℕ) → SitesVerdict → (text line : List ℕ) → Status → Type 0
-PrintsVerdict files names (Yes found) text line status = PrintsYes files names found text line status
-PrintsVerdict files names (No why) text line status = PrintsNo why text line status
+abbrev pub PrintsVerdict : Tests → List (List ℕ) → SitesVerdict → (text line : List ℕ) → Status → Type 0
+PrintsVerdict tests names (Yes found) text line status = PrintsYes tests names found text line status
+PrintsVerdict tests names (No why) text line status = PrintsNo why text line status
 
 -- ---- of files
 
 -- Files and prices ask a question, the bytes are a certificate file, and the verdict on what is kept of it is printed.
 -- Where that is yes, the certificate is valid, and so the answer that is printed is right.
-pub record IsSitesChecked (files : List File) (prices certificate text line : List ℕ) (status : Status) : Type 0 where
+pub record IsSitesChecked (tests : Tests) (prices certificate text line : List ℕ) (status : Status) : Type 0 where
   pub question : Question
   pub names : List (List ℕ)
-  pub asked : IsAsked files prices question names
+  pub asked : IsAsked tests prices question names
   pub said : Said
   pub says : IsSitesFile certificate said
   pub kept : SitesCertificate
   pub keeps : KeepsSaid kept said
   pub verdict : SitesVerdict
   pub right : IsSitesVerdict question names kept verdict
-  pub printed : PrintsVerdict files names verdict text line status
+  pub printed : PrintsVerdict tests names verdict text line status
 
 -- the first fault: of the question, else of the certificate, else of judging it; want of memory may come in place of
 -- any answer
-pub data IsFirstSitesCheckFault (files : List File) (prices certificate : List ℕ) : Fault → Type 0 where
-  of_question : {fault : Fault} → IsFirstAskedFault files prices fault
-      → IsFirstSitesCheckFault files prices certificate fault
-  of_certificate : (q : Question) (names : List (List ℕ)) → IsAsked files prices q names
+pub data IsFirstSitesCheckFault (tests : Tests) (prices certificate : List ℕ) : Fault → Type 0 where
+  of_question : {fault : Fault} → IsFirstAskedFault tests prices fault
+      → IsFirstSitesCheckFault tests prices certificate fault
+  of_certificate : (q : Question) (names : List (List ℕ)) → IsAsked tests prices q names
       → ((said : Said) → ¬ IsSitesFile certificate said)
-      → IsFirstSitesCheckFault files prices certificate BadCertificate
-  of_judge : {fault : Fault} (q : Question) (names : List (List ℕ)) (said : Said) → IsAsked files prices q names
+      → IsFirstSitesCheckFault tests prices certificate BadCertificate
+  of_judge : {fault : Fault} (q : Question) (names : List (List ℕ)) (said : Said) → IsAsked tests prices q names
       → IsSitesFile certificate said → IsSolveFault q.parts fault
-      → IsFirstSitesCheckFault files prices certificate fault
-  of_memory : IsFirstSitesCheckFault files prices certificate Memory
+      → IsFirstSitesCheckFault tests prices certificate fault
+  of_memory : IsFirstSitesCheckFault tests prices certificate Memory

@@ -14,7 +14,7 @@ use crate::check::run_sites_check;
 use crate::write::{Grounds, certificate_text};
 use fs_app_check::Checked;
 use fs_app_io::Status;
-use fs_app_sites::{File, Solved, answer_text, read_question, solved_of};
+use fs_app_sites::{Solved, Tests, answer_text, read_question, solved_of};
 use fs_cert_evidence::Inference;
 use fs_kinds::{Fault, List};
 use fs_sites::{Answer, Part, Question};
@@ -40,22 +40,22 @@ pub struct Certified {
 pub fn run_sites_certified<R: Threads + Sync>(
     rt: &R,
     alloc: Global,
-    files: &[File],
+    tests: &Tests,
     prices: &[u8],
     is_json: bool,
     limits: Limits,
 ) -> Result<Certified, Fault>
-    ensures ok { IfOk result (λ made. IsSolved is_json files.now prices.now
+    ensures ok { IfOk result (λ made. IsSolved is_json tests.now prices.now
         (string_bytes made.solved.output.text) made.solved.output.status) }
-    ensures certificate { IfOk result (λ made. IfSome made.certificate (λ text. IsCertified is_json files.now prices.now
+    ensures certificate { IfOk result (λ made. IfSome made.certificate (λ text. IsCertified is_json tests.now prices.now
         (string_bytes made.solved.output.text) made.solved.output.status (string_bytes text))) }
-    ensures fault { IfErr result (IsFirstSitesFault files.now prices.now) }
+    ensures fault { IfErr result (IsFirstSitesFault tests.now prices.now) }
 {
-    let asked = read_question(alloc, files, prices)?;
+    let asked = read_question(alloc, tests, prices)?;
     let names = asked.names.as_slice();
     let (answer, grounds) = answer_of(rt, alloc, &asked.question, limits)?;
-    let solved = solved_of(alloc, files, names, &answer, is_json)?;
-    let certificate = certificate_of(alloc, files, prices, names, &answer, &grounds)?;
+    let solved = solved_of(alloc, tests, names, &answer, is_json)?;
+    let certificate = certificate_of(alloc, tests, prices, names, &answer, &grounds)?;
     Ok(Certified {
         solved,
         certificate,
@@ -93,19 +93,19 @@ fn cycles_of(alloc: Global, parts: &[Part], answer: &Answer) -> Result<Vec<List<
 /// The certificate's text, where `run_sites_check` accepts it with this answer. The error is F19.
 fn certificate_of(
     alloc: Global,
-    files: &[File],
+    tests: &Tests,
     prices: &[u8],
     names: &[String],
     answer: &Answer,
     grounds: &Grounds,
 ) -> Result<Option<String>, Fault>
-    ensures ok { IfOk result (λ found. IfSome found (λ text. IsAccepted files.now prices.now (string_bytes text)
-        (answer_text false files.now (map string_bytes names.now) answer.now))) }
+    ensures ok { IfOk result (λ found. IfSome found (λ text. IsAccepted tests.now prices.now (string_bytes text)
+        (answer_text false tests.now (map string_bytes names.now) answer.now))) }
     ensures err { IfErr result (λ f. f ≡ Memory) }
 {
     let text = certificate_text(alloc, names, answer, grounds)?;
-    let lines = answer_text(alloc, files, names, answer, false)?;
-    let holds = is_accepted(alloc, files, prices, text.as_bytes(), lines.as_str())?;
+    let lines = answer_text(alloc, tests, names, answer, false)?;
+    let holds = is_accepted(alloc, tests, prices, text.as_bytes(), lines.as_str())?;
     if !holds {
         return Ok(None);
     }
@@ -115,16 +115,16 @@ fn certificate_of(
 /// Does `run_sites_check` accept the bytes, and print these lines below `yes`? The error is F19.
 fn is_accepted(
     alloc: Global,
-    files: &[File],
+    tests: &Tests,
     prices: &[u8],
     certificate: &[u8],
     lines: &str,
 ) -> Result<bool, Fault>
     ensures ok { IfOk result (λ holds. IsTrue holds
-        → IsAccepted files.now prices.now certificate.now lines.now) }
+        → IsAccepted tests.now prices.now certificate.now lines.now) }
     ensures err { IfErr result (λ f. f ≡ Memory) }
 {
-    match run_sites_check(alloc, files, prices, certificate) {
+    match run_sites_check(alloc, tests, prices, certificate) {
         Ok(checked) => Ok(is_yes(alloc, &checked, lines)?),
         Err(Fault::Memory) => Err(Fault::Memory),
         Err(_) => Ok(false),

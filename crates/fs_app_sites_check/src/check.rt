@@ -6,7 +6,7 @@ ghost use Rattle.fs_app_sites_check.specs.Checked.{IsFirstSitesCheckFault, IsSit
 use crate::objects::verdict_output;
 use crate::read::read_certificate;
 use fs_app_check::Checked;
-use fs_app_sites::{File, read_question};
+use fs_app_sites::{Tests, read_question};
 use fs_kinds::Fault;
 use fs_sites_check::judge;
 use std::alloc::Global;
@@ -14,7 +14,7 @@ use std::alloc::Global;
 /// The most steps of the plan of witnesses: as many as a search may take at most.
 const MOST_STEPS: usize = 1_000_000;
 
-/// What `check --sites` prints for files of tests, in this order, a file of prices and a certificate, in lines or as
+/// What `check --sites` prints for tests, in this order, a file of prices and a certificate, in lines or as
 /// JSON: where the certificate is valid, `yes` and below it the answer as `solve --sites` prints it, and status 0; else
 /// `no: ` and a reason against it, and status 1. The files are bytes as they were read. Nothing of the search is
 /// called.
@@ -24,17 +24,17 @@ const MOST_STEPS: usize = 1_000_000;
 /// any answer. The cost is that of `judge` of fs_sites_check.
 pub fn run_sites_check(
     alloc: Global,
-    files: &[File],
+    tests: &Tests,
     prices: &[u8],
     certificate: &[u8],
 ) -> Result<Checked, Fault>
-    ensures answer { IfOk result (λ made. IsSitesChecked files.now prices.now certificate.now
+    ensures answer { IfOk result (λ made. IsSitesChecked tests.now prices.now certificate.now
         (string_bytes made.output.text) (string_bytes made.object) made.output.status) }
-    ensures fault { IfErr result (IsFirstSitesCheckFault files.now prices.now certificate.now) }
+    ensures fault { IfErr result (IsFirstSitesCheckFault tests.now prices.now certificate.now) }
 {
-    let asked = read_question(alloc, files, prices)?;
+    let asked = read_question(alloc, tests, prices)?;
     let names = asked.names.as_slice();
     let said = read_certificate(alloc, certificate)?;
     let verdict = judge(alloc, &asked.question, names, &said, MOST_STEPS)?;
-    verdict_output(alloc, files, names, &verdict)
+    verdict_output(alloc, tests, names, &verdict)
 }

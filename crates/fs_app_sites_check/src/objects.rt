@@ -9,7 +9,7 @@ ghost use Rattle.fs_app_sites_check.specs.Checked.{PrintsNo, PrintsVerdict, Prin
 
 use fs_app_check::Checked;
 use fs_app_io::{Output, Status};
-use fs_app_sites::{File, answer_text, answer_value};
+use fs_app_sites::{Tests, answer_text, answer_value};
 use fs_kinds::Fault;
 use fs_report::json_line;
 use fs_sites::Answer;
@@ -22,14 +22,14 @@ use std::alloc::{AllocError, Global};
 /// The line `yes`, and below it the answer.
 fn yes_text(
     alloc: Global,
-    files: &[File],
+    tests: &Tests,
     names: &[String],
     answer: &Answer,
 ) -> Result<String, AllocError>
     ensures { IfOk result (λ text. string_bytes text
-        ≡ yes_line ++ answer_text false files.now (map string_bytes names.now) answer.now) }
+        ≡ yes_line ++ answer_text false tests.now (map string_bytes names.now) answer.now) }
 {
-    let lines = answer_text(alloc, files, names, answer, false)?;
+    let lines = answer_text(alloc, tests, names, answer, false)?;
     format!(in alloc; "yes\n{}", lines.as_str())
 }
 
@@ -43,29 +43,29 @@ fn yes_value(alloc: Global, answer: Value) -> Result<Value, AllocError>
 /// The same in print, as a line.
 fn yes_object(
     alloc: Global,
-    files: &[File],
+    tests: &Tests,
     names: &[String],
     answer: &Answer,
 ) -> Result<String, AllocError>
     ensures { IfOk result (λ text. string_bytes text
-        ≡ json_line (yes_value (value_of files.now (map string_bytes names.now) answer.now))) }
+        ≡ json_line (yes_value (value_of tests.now (map string_bytes names.now) answer.now))) }
 {
-    let answer = answer_value(alloc, files, names, answer)?;
+    let answer = answer_value(alloc, tests, names, answer)?;
     let value = yes_value(alloc, answer)?;
     json_line(alloc, &value)
 }
 
 fn yes_output(
     alloc: Global,
-    files: &[File],
+    tests: &Tests,
     names: &[String],
     answer: &Answer,
 ) -> Result<Checked, AllocError>
-    ensures { IfOk result (λ made. PrintsYes files.now (map string_bytes names.now) answer.now
+    ensures { IfOk result (λ made. PrintsYes tests.now (map string_bytes names.now) answer.now
         (string_bytes made.output.text) (string_bytes made.object) made.output.status) }
 {
-    let text = yes_text(alloc, files, names, answer)?;
-    let object = yes_object(alloc, files, names, answer)?;
+    let text = yes_text(alloc, tests, names, answer)?;
+    let object = yes_object(alloc, tests, names, answer)?;
     let status = Status::Success;
     Ok(Checked {
         output: Output { text, status },
@@ -125,19 +125,19 @@ fn no_output(alloc: Global, reason: SitesReason) -> Result<Checked, AllocError>
 
 // ---- both
 
-/// The verdict in print, on a certificate of a question of these files with sites of these names. The error is F19.
+/// The verdict in print, on a certificate of a question of these tests with sites of these names. The error is F19.
 pub(crate) fn verdict_output(
     alloc: Global,
-    files: &[File],
+    tests: &Tests,
     names: &[String],
     verdict: &SitesVerdict,
 ) -> Result<Checked, Fault>
-    ensures ok { IfOk result (λ made. PrintsVerdict files.now (map string_bytes names.now) verdict.now
+    ensures ok { IfOk result (λ made. PrintsVerdict tests.now (map string_bytes names.now) verdict.now
         (string_bytes made.output.text) (string_bytes made.object) made.output.status) }
     ensures err { IsOkUnless result Fault.Memory }
 {
     match verdict {
-        SitesVerdict::Yes(answer) => Ok(yes_output(alloc, files, names, answer)?),
+        SitesVerdict::Yes(answer) => Ok(yes_output(alloc, tests, names, answer)?),
         SitesVerdict::No(reason) => Ok(no_output(alloc, *reason)?),
     }
 }
