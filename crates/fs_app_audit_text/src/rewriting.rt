@@ -3,36 +3,14 @@
 ghost use Rattle.std.specs.Prelude.{◌≡◌, ◌≤◌, All, count_by, length, map, take, IfOk};
 ghost use Rattle.std.specs.List.{enumerate_from};
 ghost use Rattle.fs_kinds.specs.Limits.{most_harts, most_instructions};
-ghost use Rattle.fs_model.specs.Fenced.{fence_of};
 ghost use Rattle.fs_app_audit_text.specs.Rewritten.{fence_or_gone, has_letters, is_left, is_ours, left, marked_code};
 ghost use Rattle.fs_app_audit_text.specs.Rewritten.{marked_instr, moved, position, rewritten_code};
 
 use crate::fences::{is_fence, names_devices};
 use fs_instr::{Instr, Letters};
 use fs_kinds::{Kind, Placement, Slot};
-use fs_model::{Code, Codes};
+use fs_model::{Code, Codes, fence_of};
 use std::alloc::{AllocError, Global};
-
-const READ: Letters = Letters {
-    input: false,
-    output: false,
-    reads: true,
-    writes: false,
-};
-
-const WRITE: Letters = Letters {
-    input: false,
-    output: false,
-    reads: false,
-    writes: true,
-};
-
-const BOTH: Letters = Letters {
-    input: false,
-    output: false,
-    reads: true,
-    writes: true,
-};
 
 const NONE: Letters = Letters {
     input: false,
@@ -40,25 +18,6 @@ const NONE: Letters = Letters {
     reads: false,
     writes: false,
 };
-
-/// The FENCE of a kind.
-fn fence_of(kind: Kind) -> Instr
-    ensures { result ≡ fence_of kind }
-{
-    let (before, after) = match kind {
-        Kind::RR => (READ, READ),
-        Kind::RW => (READ, WRITE),
-        Kind::RRw => (READ, BOTH),
-        Kind::WR => (WRITE, READ),
-        Kind::WW => (WRITE, WRITE),
-        Kind::WRw => (WRITE, BOTH),
-        Kind::RwR => (BOTH, READ),
-        Kind::RwW => (BOTH, WRITE),
-        Kind::RwRw => (BOTH, BOTH),
-        Kind::Tso => return Instr::FenceTso,
-    };
-    Instr::Fence { before, after }
-}
 
 fn has_letters(letters: Letters) -> bool
     ensures { result ≡ has_letters letters }

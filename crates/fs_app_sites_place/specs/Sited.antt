@@ -1,5 +1,5 @@
 -- The sites of one file, and the fences that words such as `lock=r,r` put at them.
-use Rattle.std.specs.Prelude.{◌≡◌, ◌≢◌, ◌⊎◌, ◌<◌, ◌+◌, ◌*◌, ℕ, List, [], ◌++◌, map, length, slice_index_or, Any, Option, Some, None, codes}
+use Rattle.std.specs.Prelude.{◌≡◌, ◌≢◌, ◌⊎◌, ◌<◌, ◌+◌, ◌*◌, ℕ, Bool, List, [], ◌++◌, map, length, slice_index_or, Any, Option, Some, None, codes}
 use Rattle.std.specs.List.{range_with_len}
 use Rattle.fs_kinds.specs.declared.fault.Fault.{Fault}
 use Rattle.fs_kinds.specs.declared.fault.Fault.TheVariants.{NodeLimit}
@@ -8,35 +8,41 @@ use Rattle.fs_kinds.specs.declared.placement.Entry.{Entry}
 use Rattle.fs_kinds.specs.declared.slot.Slot.{Slot}
 use Rattle.fs_kinds.specs.Kind.{word}
 use Rattle.fs_kinds.specs.Placement.{all_with}
-use Rattle.fs_kinds.specs.PriceTable.{PriceTable}
 use Rattle.fs_model.specs.declared.test.Test.{Test}
 use Rattle.fs_model.specs.Placed.{placed}
 use Rattle.fs_litmus.specs.Faults.{IsTestFault}
 use Rattle.fs_litmus.specs.Reads.{Reads}
 use Rattle.fs_sites.specs.declared.question.Place.{Place}
-use Rattle.fs_app_sites.specs.Sites.{Copy, HaveCopies, IsLabelsFault, key, most_sites, places_of, with_copies}
+use Rattle.fs_app_sites.specs.Sites.{Copy, HaveAllCopies, IsLabelsFault, key, most_sites, places_of, with_copies}
 
 -- ---- the sites of a file
 
--- the labels of the bytes name copies of sites: these are their places, and the names of the sites in the order in
+-- the copies of sites in a file that reads as this test: with is_free each slot of the test at which no label stands is
+-- a site of its own too, such as `P0:3`
+abbrev pub HaveSites : (is_free : Bool) → List ℕ → Test → List Copy → Type 0
+HaveSites is_free = HaveAllCopies is_free []
+
+-- the bytes read as the test with copies of sites: these are their places, and the names of the sites in the order in
 -- which they first stand
-pub record AreSites (bytes : List ℕ) (places : List Place) (names : List (List ℕ)) : Type 0 where
+pub record AreSites (is_free : Bool) (bytes : List ℕ) (t : Test) (places : List Place) (names : List (List ℕ)) : Type 0 where
   pub copies : List Copy
-  pub have : HaveCopies bytes copies
+  pub reads : Reads bytes t
+  pub have : HaveSites is_free bytes t copies
   pub named : names ≡ with_copies [] copies
   pub stand : places ≡ places_of names copies
 
 -- there are more sites than keys
-abbrev pub HaveTooMany : List ℕ → Type 0
-HaveTooMany bytes = (copies : List Copy) × HaveCopies bytes copies × (most_sites < length (with_copies [] copies))
+abbrev pub HaveTooMany : (is_free : Bool) → List ℕ → Test → Type 0
+HaveTooMany is_free bytes t =
+    (copies : List Copy) × HaveSites is_free bytes t copies × (most_sites < length (with_copies [] copies))
 
 -- of the labels of a file, or else that there are too many sites
-abbrev pub IsSitesFault : List ℕ → Fault → Type 0
-IsSitesFault bytes fault = IsLabelsFault bytes fault ⊎ ((fault ≡ NodeLimit) × HaveTooMany bytes)
+abbrev pub IsSitesFault : (is_free : Bool) → List ℕ → Test → Fault → Type 0
+IsSitesFault is_free bytes t fault = IsLabelsFault bytes fault ⊎ ((fault ≡ NodeLimit) × HaveTooMany is_free bytes t)
 
 -- of a file: of its test, or else of its sites
-abbrev pub IsSitedFault : List ℕ → Fault → Type 0
-IsSitedFault bytes fault = IsTestFault bytes fault ⊎ ((t : Test) × Reads bytes t × IsSitesFault bytes fault)
+abbrev pub IsSitedFault : (is_free : Bool) → List ℕ → Fault → Type 0
+IsSitedFault is_free bytes fault = IsTestFault bytes fault ⊎ ((t : Test) × Reads bytes t × IsSitesFault is_free bytes t fault)
 
 -- ---- words
 
@@ -61,18 +67,17 @@ abbrev pub keys : ℕ → List Slot
 keys sites = map key (range_with_len 0 sites)
 
 -- what the words put at the sites of these names, which have no fence at first
-abbrev pub ArePut : Option PriceTable → List (List ℕ) → List (List ℕ) → Option (List Entry) → Type 0
-ArePut prices names words result =
+abbrev pub ArePut : List (List ℕ) → List (List ℕ) → Option (List Entry) → Type 0
+ArePut names words result =
     (fences : List (Slot × Kind)) × (map (word_of names) fences ≡ words)
-    × (placed prices (all_with None (keys (length names))) fences ≡ result)
+    × (placed None (all_with None (keys (length names))) fences ≡ result)
 
--- a word is of no site and kind, or one of them doesn't fit: a site named before, or a kind without a price
-abbrev pub AreBadWords : Option PriceTable → List (List ℕ) → List (List ℕ) → Type 0
-AreBadWords prices names words = Any (IsNoFence names) words ⊎ ArePut prices names words None
+-- a word is of no site and kind, or one of them names a site that an earlier one names
+abbrev pub AreBadWords : List (List ℕ) → List (List ℕ) → Type 0
+AreBadWords names words = Any (IsNoFence names) words ⊎ ArePut names words None
 
 -- the bytes read as a test with copies of sites, to which the words give these fences
-pub record AreFences (table : Option PriceTable) (test : List ℕ) (words : List (List ℕ)) (t : Test) (places : List Place) (kinds : List Entry) : Type 0 where
+pub record AreFences (is_free : Bool) (test : List ℕ) (words : List (List ℕ)) (t : Test) (places : List Place) (kinds : List Entry) : Type 0 where
   pub names : List (List ℕ)
-  pub reads : Reads test t
-  pub sites : AreSites test places names
-  pub put : ArePut table names words (Some kinds)
+  pub sites : AreSites is_free test t places names
+  pub put : ArePut names words (Some kinds)

@@ -1,8 +1,7 @@
 //! What `order --sites` answers.
 
-ghost use Rattle.std.specs.Prelude.{◌≡◌, ◌≤◌, ℕ, List, IfOk, IfErr, IsOkUnless, length, map, string_bytes, true};
+ghost use Rattle.std.specs.Prelude.{◌≡◌, ◌≤◌, Bool, ℕ, List, IfOk, IfErr, IsOkUnless, length, map, string_bytes, true};
 ghost use Rattle.fs_kinds.specs.Slot.{is_rising};
-ghost use Rattle.fs_litmus.specs.Reads.{Reads};
 ghost use Rattle.fs_model.specs.Test.{IsTest};
 ghost use Rattle.fs_sites.specs.Questions.{slots_at};
 ghost use Rattle.fs_app_place_order.specs.Order.{verdict_line, verdict_status};
@@ -21,8 +20,9 @@ use std::alloc::Global;
 
 /// What `order --sites` prints for a test file, a witness and words of sites: `yes` where the witness gives an
 /// execution, under RVWMO, of the test with the fences that the words name at all copies of each site, and one that
-/// shows the outcome of its condition; else `no: ` and the first reason against it. The files are bytes as they were
-/// read. The cost is that of `check_order` of fs_check, and each copy's name is held against those of all sites.
+/// shows the outcome of its condition; else `no: ` and the first reason against it. With `is_free` each slot at which no
+/// label names a site is a site of its own, such as `P0:3`. The files are bytes as they were read. The cost is that of
+/// `check_order` of fs_check, and each copy's name and each word is held against the names of all sites.
 ///
 /// The first fault in this order: those of a test file by number and then line; `BadLabel` of a second site label at a
 /// place; `NodeLimit` where there are more than 65,536 sites; `BadFence`; `BadWitness`. `Memory` may come in place of
@@ -32,12 +32,13 @@ pub fn run_order_sites(
     test: &[u8],
     witness: &[u8],
     words: &[String],
+    is_free: bool,
 ) -> Result<Output, Fault>
-    ensures answer { IfOk result (λ output.
-        IsSitesOrderAnswer test.now witness.now (map string_bytes words.now) (string_bytes output.text) output.status) }
-    ensures fault { IfErr result (IsFirstSitesOrderFault test.now witness.now (map string_bytes words.now)) }
+    ensures answer { IfOk result (λ output. IsSitesOrderAnswer is_free test.now witness.now
+        (map string_bytes words.now) (string_bytes output.text) output.status) }
+    ensures fault { IfErr result (IsFirstSitesOrderFault is_free test.now witness.now (map string_bytes words.now)) }
 {
-    let (test, sites) = read_sited(alloc, test)?;
+    let (test, sites) = read_sited(alloc, test, is_free)?;
     judge(alloc, &test, &sites, witness, words)
 }
 
@@ -52,14 +53,15 @@ fn judge(
     requires test { IsTest test.now }
     requires rising { is_rising (slots_at sites.now.places) ≡ true }
     requires few { length sites.now.names ≤ most_sites }
-    ensures answer { IfOk result (λ output. (bytes : List ℕ) → Reads bytes test.now
-        → AreSites bytes sites.now.places (map string_bytes sites.now.names)
-        → IsSitesOrderAnswer bytes witness.now (map string_bytes words.now) (string_bytes output.text) output.status) }
-    ensures fault { IfErr result (λ f. (bytes : List ℕ) → Reads bytes test.now
-        → AreSites bytes sites.now.places (map string_bytes sites.now.names)
-        → IsFirstSitesOrderFault bytes witness.now (map string_bytes words.now) f) }
+    ensures answer { IfOk result (λ output. (is_free : Bool) (bytes : List ℕ)
+        → AreSites is_free bytes test.now sites.now.places (map string_bytes sites.now.names)
+        → IsSitesOrderAnswer is_free bytes witness.now (map string_bytes words.now)
+            (string_bytes output.text) output.status) }
+    ensures fault { IfErr result (λ f. (is_free : Bool) (bytes : List ℕ)
+        → AreSites is_free bytes test.now sites.now.places (map string_bytes sites.now.names)
+        → IsFirstSitesOrderFault is_free bytes witness.now (map string_bytes words.now) f) }
 {
-    let kinds = read_kinds(alloc, &sites.names, None, words)?;
+    let kinds = read_kinds(alloc, &sites.names, words)?;
     judge_fenced(alloc, test, &sites.places, &kinds, witness)
 }
 
@@ -73,12 +75,12 @@ fn judge_fenced(
 ) -> Result<Output, Fault>
     requires test { IsTest test.now }
     requires rising { is_rising (slots_at places.now) ≡ true }
-    ensures answer { IfOk result (λ output. (bytes : List ℕ) (words : List (List ℕ))
-        → AreFences None bytes words test.now places.now kinds.now
-        → IsSitesOrderAnswer bytes witness.now words (string_bytes output.text) output.status) }
-    ensures fault { IfErr result (λ f. (bytes : List ℕ) (words : List (List ℕ))
-        → AreFences None bytes words test.now places.now kinds.now
-        → IsFirstSitesOrderFault bytes witness.now words f) }
+    ensures answer { IfOk result (λ output. (is_free : Bool) (bytes : List ℕ) (words : List (List ℕ))
+        → AreFences is_free bytes words test.now places.now kinds.now
+        → IsSitesOrderAnswer is_free bytes witness.now words (string_bytes output.text) output.status) }
+    ensures fault { IfErr result (λ f. (is_free : Bool) (bytes : List ℕ) (words : List (List ℕ))
+        → AreFences is_free bytes words test.now places.now kinds.now
+        → IsFirstSitesOrderFault is_free bytes witness.now words f) }
 {
     let fences = image(alloc, places, kinds)?;
     let verdict = check_order(alloc, test, &fences, witness)?;

@@ -9,7 +9,7 @@ ghost use Rattle.fs_sites.specs.Questions.{slots_at};
 ghost use Rattle.fs_app_sites.specs.Sites.{copy_value, most_sites, places_of, with_copies};
 ghost use Rattle.fs_app_sites_place.specs.Sited.{AreSites, IsSitedFault, IsSitesFault};
 
-use fs_app_sites::{MOST_SITES, SiteCopy, add_copies, places_of, read_copies};
+use fs_app_sites::{MOST_SITES, SiteCopy, add_copies, places_of, read_all_copies};
 use fs_kinds::{Fault, List};
 use fs_litmus::{Test, read_test};
 use fs_sites::Place;
@@ -51,28 +51,31 @@ fn sites_of(alloc: Global, copies: &[SiteCopy]) -> Result<Sites, Fault>
     })
 }
 
-/// The sites of a file, of which `read_test` has read the test.
-fn read_sites(alloc: Global, bytes: &[u8]) -> Result<Sites, Fault>
-    ensures ok { IfOk result (λ sites. AreSites bytes.now sites.places (map string_bytes sites.names)) }
+/// The sites of a file that reads as this test.
+fn read_sites(alloc: Global, bytes: &[u8], test: &Test, is_free: bool) -> Result<Sites, Fault>
+    requires test { IsTest test.now }
+    requires reads { Reads bytes.now test.now }
+    ensures ok { IfOk result (λ sites. AreSites is_free bytes.now test.now sites.places
+        (map string_bytes sites.names)) }
     ensures rising { IfOk result (λ sites. is_rising (slots_at sites.places) ≡ true) }
     ensures few { IfOk result (λ sites. length sites.names ≤ most_sites) }
-    ensures err { IfErr result (λ f. f ≢ Memory → IsSitesFault bytes.now f) }
+    ensures err { IfErr result (λ f. f ≢ Memory → IsSitesFault is_free bytes.now test.now f) }
 {
-    let copies = read_copies(alloc, bytes)?;
+    let copies = read_all_copies(alloc, bytes, test, "", is_free)?;
     sites_of(alloc, &copies)
 }
 
 /// A file's test, and its sites. The first fault in this order: those of a test by number and then line, F6 in the line
 /// of a second site label at a place, F16 where there are more sites than have keys; or F19.
-pub(crate) fn read_sited(alloc: Global, bytes: &[u8]) -> Result<(Test, Sites), Fault>
-    ensures reads { IfOk result (λ read. Reads bytes.now read.0) }
+pub(crate) fn read_sited(alloc: Global, bytes: &[u8], is_free: bool) -> Result<(Test, Sites), Fault>
     ensures test { IfOk result (λ read. IsTest read.0) }
-    ensures sites { IfOk result (λ read. AreSites bytes.now read.1.places (map string_bytes read.1.names)) }
+    ensures sites { IfOk result (λ read. AreSites is_free bytes.now read.0 read.1.places
+        (map string_bytes read.1.names)) }
     ensures rising { IfOk result (λ read. is_rising (slots_at read.1.places) ≡ true) }
     ensures few { IfOk result (λ read. length read.1.names ≤ most_sites) }
-    ensures err { IfErr result (λ f. f ≢ Memory → IsSitedFault bytes.now f) }
+    ensures err { IfErr result (λ f. f ≢ Memory → IsSitedFault is_free bytes.now f) }
 {
     let test = read_test(alloc, bytes)?;
-    let sites = read_sites(alloc, bytes)?;
+    let sites = read_sites(alloc, bytes, &test, is_free)?;
     Ok((test, sites))
 }

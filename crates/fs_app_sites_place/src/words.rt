@@ -1,16 +1,16 @@
 //! The fences of sites that words name.
 
 ghost use Rattle.std.specs.Prelude.{◌≡◌, ◌≢◌, ◌⊎◌, ◌≤◌, Any, None, Some, IfOk, IfErr, IfSome, IfNone, IsErrOf};
-ghost use Rattle.std.specs.Prelude.{IsOkUnless, length, map, option_copied, string_bytes};
+ghost use Rattle.std.specs.Prelude.{IsOkUnless, length, map, string_bytes};
 ghost use Rattle.fs_kinds.specs.declared.fault.Fault.TheVariants.{BadFence, Memory};
 ghost use Rattle.fs_kinds.specs.declared.kind.Kind as kinds;
 ghost use Rattle.fs_kinds.specs.Placement.{all_with};
-ghost use Rattle.fs_model.specs.Placed.{is_offered, placed};
+ghost use Rattle.fs_model.specs.Placed.{placed};
 ghost use Rattle.fs_app_sites.specs.Sites.{most_sites};
 ghost use Rattle.fs_app_sites_place.specs.Sited.{AreBadWords, ArePut, IsNoFence, keys, site_word, word_of};
 
 use fs_app_sites::key;
-use fs_kinds::{Fault, Kind, Placement, Prices, Slot};
+use fs_kinds::{Fault, Kind, Placement, Slot};
 use std::alloc::{AllocError, Global};
 
 /// The kind in a word of the site of this name. None where it is no such word.
@@ -74,22 +74,12 @@ fn no_fences(alloc: Global, sites: usize) -> Result<Placement, Fault>
     Placement::bottom(alloc, &slots)
 }
 
-/// Have given prices one for the kind?
-fn is_offered(prices: Option<&Prices>, kind: Kind) -> bool
-    ensures { result ≡ is_offered (option_copied prices.entry) kind }
-{
-    match prices {
-        Some(prices) => prices.of(kind).is_some(),
-        None => true,
-    }
-}
-
 /// The fences of sites with these put at theirs, unless one doesn't fit.
-fn put(mut kinds: Placement, fences: &[(Slot, Kind)], prices: Option<&Prices>) -> Option<Placement>
-    ensures { result ≡ placed (option_copied prices.entry) kinds fences.now }
+fn put(mut kinds: Placement, fences: &[(Slot, Kind)]) -> Option<Placement>
+    ensures { result ≡ placed None kinds fences.now }
 {
     for (site, kind) in fences {
-        if !is_offered(prices, *kind) || kinds.get(*site).is_some() {
+        if kinds.get(*site).is_some() {
             return None;
         }
         kinds.with(*site, Some(*kind)).ok()?;
@@ -98,25 +88,22 @@ fn put(mut kinds: Placement, fences: &[(Slot, Kind)], prices: Option<&Prices>) -
 }
 
 /// The fences of the sites of these names: the kinds of the words, and none at other sites. The entry of each site has
-/// its key. A word is the name of a site, `=` and the kind, as `lock=r,r`. F12 where a word has another form, names no
-/// such site or one that an earlier word names, or a kind that has no price in given prices; else F19. Each word is
-/// held against each name.
+/// its key. A word is the name of a site, `=` and the kind, as `lock=r,r`. F12 where a word has another form, or names
+/// no such site or one that an earlier word names; else F19. Each word is held against each name.
 pub(crate) fn read_kinds(
     alloc: Global,
     names: &[String],
-    prices: Option<&Prices>,
     words: &[String],
 ) -> Result<Placement, Fault>
     requires { length names.now ≤ most_sites }
-    ensures ok { IfOk result (λ p.
-        ArePut (option_copied prices.entry) (map string_bytes names.now) (map string_bytes words.now) (Some p)) }
+    ensures ok { IfOk result (λ p. ArePut (map string_bytes names.now) (map string_bytes words.now) (Some p)) }
     ensures bad_fence { IsErrOf result BadFence
-        → AreBadWords (option_copied prices.entry) (map string_bytes names.now) (map string_bytes words.now) }
+        → AreBadWords (map string_bytes names.now) (map string_bytes words.now) }
     ensures err { IfErr result (λ fault. (fault ≡ BadFence) ⊎ (fault ≡ Memory)) }
 {
     let fences = read_words(alloc, names, words)?;
     let kinds = no_fences(alloc, names.len())?;
-    match put(kinds, &fences, prices) {
+    match put(kinds, &fences) {
         Some(kinds) => Ok(kinds),
         None => Err(Fault::BadFence),
     }
