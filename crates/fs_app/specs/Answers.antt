@@ -12,7 +12,7 @@ use Rattle.fs_report.specs.Objects.{AreOneAnswer}
 use Rattle.fs_app_solve.specs.Solve.{IsSolved}
 use Rattle.fs_app_solve_text.specs.Inserted.{IsInserted}
 use Rattle.fs_app_sites.specs.Solved.{IsSolved as IsSitesSolved}
-use Rattle.fs_app_sites.specs.declared.content.File.{File}
+use Rattle.fs_app_sites.specs.declared.content.Tests.{Tests}
 use Rattle.fs_app_sites_check.specs.Checked.{IsSitesChecked}
 use Rattle.fs_app_audit.specs.Audit.{IsAnew, IsAudited, IsWritten, IsFirstAnewFault, IsFirstAuditFault, IsFirstWrittenFault}
 use Rattle.fs_app_audit.specs.Blocks.{AreBlocks, are_named, blocks_status, blocks_text}
@@ -55,28 +55,28 @@ abbrev pub in_form : (is_json : Bool) (lines object : List ℕ) → List ℕ
 in_form is_json lines object = if is_json then object else lines
 
 -- the test with fences in slots, or with `--sites` at all copies of sites
-abbrev pub IsPlacedText : (has_sites : Bool) (test : List ℕ) (prices : Option (List ℕ)) (words : List (List ℕ)) (text : List ℕ) → Type 0
-IsPlacedText true test prices words text = IsSitesText test prices words text
-IsPlacedText false test prices words text = IsFencedText test prices words text
+abbrev pub IsPlacedText : (has_sites is_free : Bool) (test : List ℕ) (prices : Option (List ℕ)) (words : List (List ℕ)) (text : List ℕ) → Type 0
+IsPlacedText true is_free test prices words text = IsSitesText is_free test prices words text
+IsPlacedText false is_free test prices words text = IsFencedText test prices words text
 
-abbrev pub IsPlaceFault : (has_sites : Bool) (test : List ℕ) (prices : Option (List ℕ)) (words : List (List ℕ)) → Fault → Type 0
-IsPlaceFault true test prices words fault = IsFirstSitesPlaceFault test prices words fault
-IsPlaceFault false test prices words fault = IsFirstPlaceFault test prices words fault
+abbrev pub IsPlaceFault : (has_sites is_free : Bool) (test : List ℕ) (prices : Option (List ℕ)) (words : List (List ℕ)) → Fault → Type 0
+IsPlaceFault true is_free test prices words fault = IsFirstSitesPlaceFault is_free test prices words fault
+IsPlaceFault false is_free test prices words fault = IsFirstPlaceFault test prices words fault
 
 -- and the verdict on a witness in it
-abbrev pub IsOrderText : (has_sites : Bool) (test witness : List ℕ) (words : List (List ℕ)) (text : List ℕ) (status : Status) → Type 0
-IsOrderText true test witness words text status = IsSitesOrderAnswer test witness words text status
-IsOrderText false test witness words text status = IsOrderAnswer test witness words text status
+abbrev pub IsOrderText : (has_sites is_free : Bool) (test witness : List ℕ) (words : List (List ℕ)) (text : List ℕ) (status : Status) → Type 0
+IsOrderText true is_free test witness words text status = IsSitesOrderAnswer is_free test witness words text status
+IsOrderText false is_free test witness words text status = IsOrderAnswer test witness words text status
 
-abbrev pub IsOrderFault : (has_sites : Bool) (test witness : List ℕ) (words : List (List ℕ)) → Fault → Type 0
-IsOrderFault true test witness words fault = IsFirstSitesOrderFault test witness words fault
-IsOrderFault false test witness words fault = IsFirstOrderFault test witness words fault
+abbrev pub IsOrderFault : (has_sites is_free : Bool) (test witness : List ℕ) (words : List (List ℕ)) → Fault → Type 0
+IsOrderFault true is_free test witness words fault = IsFirstSitesOrderFault is_free test witness words fault
+IsOrderFault false is_free test witness words fault = IsFirstOrderFault test witness words fault
 
 -- what `place` prints of the test of this name, with the prices of this name
 pub record AnswersPlace (place : Place) (papers : Papers) (output : Output) : Type 0 where
   pub test_name : papers.test.name.now ≡ place.test.now
   pub prices_name : IfSome place.prices (λ name. papers.prices.name.now ≡ name.now)
-  pub text : IsPlacedText place.sites papers.test.bytes.items (offered place papers) (map string_bytes place.fences.items) (string_bytes output.text)
+  pub text : IsPlacedText place.sites place.free papers.test.bytes.items (offered place papers) (map string_bytes place.fences.items) (string_bytes output.text)
   pub ends : output.status ≡ Success
 
 pub record AnswersOrder (order : Order) (papers : Papers) (output : Output) : Type 0 where
@@ -84,7 +84,7 @@ pub record AnswersOrder (order : Order) (papers : Papers) (output : Output) : Ty
   pub witness_name : papers.evidence.name.now ≡ order.witness.now
   pub lines : List ℕ
   pub below : List ℕ
-  pub answer : IsOrderText order.sites papers.test.bytes.items papers.evidence.bytes.items (map string_bytes order.fences.items) lines output.status
+  pub answer : IsOrderText order.sites order.free papers.test.bytes.items papers.evidence.bytes.items (map string_bytes order.fences.items) lines output.status
   pub told : IsTold order.why (IsOrderWhy papers.test.bytes.items papers.evidence.bytes.items (map string_bytes order.fences.items)) below
   pub text : string_bytes output.text ≡ lines ++ below
 
@@ -128,8 +128,8 @@ pub record AnswersSolve (solve : Solve) (papers : Papers) (output : Output) : Ty
 
 -- the answer to some files and the prices that were read; or no answer, since a file has a fault
 pub data AnswersSites (sites : Sites) (papers : Papers) (output : Output) : Type 0 where
-  answered : (files : List File) → papers.prices.name.now ≡ sites.prices.now
-      → IsSitesSolved sites.json files papers.prices.bytes.items (string_bytes output.text) output.status
+  answered : (tests : Tests) → tests.is_free ≡ sites.free → papers.prices.name.now ≡ sites.prices.now
+      → IsSitesSolved sites.json tests papers.prices.bytes.items (string_bytes output.text) output.status
       → AnswersSites sites papers output
   refused : output.status ≡ Failure → AnswersSites sites papers output
 
@@ -209,9 +209,9 @@ pub record AnswersCheck (check : Check) (papers : Papers) (output : Output) : Ty
 -- the verdict on the certificate that was read, for some files and the prices that were read; or none, since a file has
 -- a fault
 pub data AnswersCheckSites (check : CheckSites) (papers : Papers) (output : Output) : Type 0 where
-  checked : (files : List File) (lines object : List ℕ) → papers.prices.name.now ≡ check.prices.now
-      → papers.evidence.name.now ≡ check.certificate.now
-      → IsSitesChecked files papers.prices.bytes.items papers.evidence.bytes.items lines object output.status
+  checked : (tests : Tests) (lines object : List ℕ) → tests.is_free ≡ check.free
+      → papers.prices.name.now ≡ check.prices.now → papers.evidence.name.now ≡ check.certificate.now
+      → IsSitesChecked tests papers.prices.bytes.items papers.evidence.bytes.items lines object output.status
       → string_bytes output.text ≡ in_form check.json lines object
       → AnswersCheckSites check papers output
   refused : output.status ≡ Failure → AnswersCheckSites check papers output

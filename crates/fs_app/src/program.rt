@@ -19,7 +19,7 @@ use crate::audits::answer_audit;
 use crate::failure::Failure;
 use crate::pictures::{draw_certified, draw_found, draw_ordered, draw_tests};
 use crate::progress::Progress;
-use crate::sites::{answer_check_sites, answer_sites};
+use crate::sites::{answer_check_sites, answer_sites, failure_of_words};
 use crate::states::{answer_log, answer_states};
 use crate::telling::{answer_why, is_yes, order_why, solve_why, telling_of, tests_why, with_below};
 use crate::write::fenced_file;
@@ -71,7 +71,12 @@ impl Voice {
         let notes = !request.quiet;
         let judges = matches!(
             request.task,
-            Task::Test(_) | Task::States(_) | Task::Audit(_) | Task::Sites(_) | Task::CheckSites(_)
+            Task::Test(_)
+                | Task::States(_)
+                | Task::Audit(_)
+                | Task::AuditSites(_)
+                | Task::Sites(_)
+                | Task::CheckSites(_)
         );
         Voice {
             notes,
@@ -128,8 +133,35 @@ fn status_of_run<
             if request.task.is_json() {
                 print_fault(rt, fault, &papers)?;
             }
-            Err(failure_of(rt.alloc(), fault, voice, &papers))
+            Err(failure_of_task(
+                rt.alloc(),
+                &request.task,
+                fault,
+                voice,
+                &papers,
+            ))
         }
+    }
+}
+
+/// The failure of a run that a fault ended. Of words of sites messages know nothing but which sites there are.
+fn failure_of_task(
+    alloc: Global,
+    task: &Task<'_>,
+    fault: Fault,
+    voice: Voice,
+    papers: &Papers<'_>,
+) -> Failure {
+    let frees = match task {
+        Task::Place(place) if place.sites => Some(place.free),
+        Task::Order(order) if order.sites => Some(order.free),
+        _ => None,
+    };
+    match frees {
+        Some(is_free) if fault == Fault::BadFence && voice.explains => {
+            failure_of_words(alloc, is_free, papers)
+        }
+        _ => failure_of(alloc, fault, voice, papers),
     }
 }
 
@@ -429,36 +461,37 @@ fn offered<'p>(place: &Place<'_>, papers: &'p Papers<'_>) -> Option<&'p [u8]>
 
 /// The test that was read, with the fences, and with the prices where some were to be read.
 fn placed(alloc: Global, place: &Place<'_>, papers: &Papers<'_>) -> Result<Output, Fault>
-    ensures text { IfOk result (λ output. IsPlacedText place.now.sites papers.now.test.bytes.items
+    ensures text { IfOk result (λ output. IsPlacedText place.now.sites place.now.free papers.now.test.bytes.items
         (offered place.now papers.now) (map string_bytes place.now.fences.items) (string_bytes output.text)) }
     ensures status { IfOk result (λ output. output.status ≡ Success) }
 {
     let prices = offered(place, papers);
     fenced(
         alloc,
-        place.sites,
+        (place.sites, place.free),
         &papers.test.bytes,
         prices,
         &place.fences,
     )
 }
 
-/// The test with the fences of slots, or of sites.
+/// The test with the fences of slots; or, where that is set first, of sites, among them slots where this is set second.
 fn fenced(
     alloc: Global,
-    has_sites: bool,
+    of: (bool, bool),
     test: &[u8],
     prices: Option<&[u8]>,
     words: &[String],
 ) -> Result<Output, Fault>
-    ensures text { IfOk result (λ output. IsPlacedText has_sites test.now (option_copied prices.entry)
+    ensures text { IfOk result (λ output. IsPlacedText of.0 of.1 test.now (option_copied prices.entry)
         (map string_bytes words.now) (string_bytes output.text)) }
     ensures status { IfOk result (λ output. output.status ≡ Success) }
-    ensures fault { IfErr result (IsPlaceFault has_sites test.now (option_copied prices.entry)
+    ensures fault { IfErr result (IsPlaceFault of.0 of.1 test.now (option_copied prices.entry)
         (map string_bytes words.now)) }
 {
+    let (has_sites, is_free) = of;
     if has_sites {
-        run_place_sites(alloc, test, prices, words)
+        run_place_sites(alloc, test, prices, words, is_free)
     } else {
         run_place(alloc, test, prices, words)
     }
@@ -476,7 +509,7 @@ fn answer_order<'a, R: Files + Input + AllocGlobal>(
     }
     papers.read_test(rt, order.test)?;
     papers.read_evidence(rt, order.witness, INPUT_LIMIT)?;
-    let verdict = ordered(rt.alloc(), order.sites, papers, &order.fences)?;
+    let verdict = ordered(rt.alloc(), (order.sites, order.free), papers, &order.fences)?;
     let below = order_why(rt.alloc(), order.why, papers, &order.fences)?;
     if let Some(folder) = order.dot {
         draw_ordered(rt, folder, papers)?;
@@ -485,21 +518,22 @@ fn answer_order<'a, R: Files + Input + AllocGlobal>(
     Ok(output)
 }
 
-/// The verdict on the witness that was read, in the test with the fences of slots, or of sites.
+/// The verdict on the witness that was read, in the test with the same fences.
 fn ordered(
     alloc: Global,
-    has_sites: bool,
+    of: (bool, bool),
     papers: &Papers<'_>,
     words: &[String],
 ) -> Result<Output, Fault>
-    ensures answer { IfOk result (λ output. IsOrderText has_sites papers.now.test.bytes.items
+    ensures answer { IfOk result (λ output. IsOrderText of.0 of.1 papers.now.test.bytes.items
         papers.now.evidence.bytes.items (map string_bytes words.now) (string_bytes output.text) output.status) }
-    ensures fault { IfErr result (IsOrderFault has_sites papers.now.test.bytes.items
+    ensures fault { IfErr result (IsOrderFault of.0 of.1 papers.now.test.bytes.items
         papers.now.evidence.bytes.items (map string_bytes words.now)) }
 {
     let (test, witness) = (&papers.test.bytes, &papers.evidence.bytes);
+    let (has_sites, is_free) = of;
     if has_sites {
-        run_order_sites(alloc, test, witness, words)
+        run_order_sites(alloc, test, witness, words, is_free)
     } else {
         run_order(alloc, test, witness, words)
     }

@@ -1,9 +1,9 @@
 //! What `solve --sites` answers of its files, and what `check --sites` says of a certificate of such an answer.
 
-ghost use Rattle.std.specs.Prelude.{◌≡◌, List, IfOk, string_bytes};
+ghost use Rattle.std.specs.Prelude.{◌≡◌, IfOk, string_bytes};
 ghost use Rattle.fs_app_io.specs.declared.status.Status.TheVariants.{Failure as Failed};
 ghost use Rattle.fs_app_sites.specs.Solved.{IsSolved};
-ghost use Rattle.fs_app_sites.specs.declared.content.File.{File as SitesFile};
+ghost use Rattle.fs_app_sites.specs.declared.content.Tests.{Tests as Questioned};
 ghost use Rattle.fs_app_sites_check.specs.Checked.{IsSitesChecked};
 ghost use Rattle.fs_app.specs.Answers.{AnswersSites, AnswersCheckSites};
 
@@ -14,10 +14,14 @@ use fs_app_command_line::{CheckSites, MOST_NODES, MOST_WORKERS, Sites};
 use fs_app_error_messages::{explain_test, shown_name};
 use fs_app_files::{Paper, Papers, fault_object};
 use fs_app_io::{Output, Source, sources, tell, write_whole};
-use fs_app_sites::{File, Limits, Solved, check_file, check_prices, first_at_fault, run_sites};
+use fs_app_sites::{
+    File, Limits, Solved, Tests, add_copies, check_file, check_prices, first_at_fault,
+    read_all_copies, run_sites,
+};
 use fs_app_sites_check::{run_sites_certified, run_sites_check};
+use fs_litmus::read_test;
 use fs_app_test::{Note, test_file, test_objects};
-use fs_kinds::Fault;
+use fs_kinds::{Fault, List};
 use std::alloc::{AllocError, Global};
 use std::rt::Files;
 use std::thread::Threads;
@@ -30,6 +34,9 @@ const NO_SITE: &str = "note: no file has a label that names a site\n";
 
 /// What is said where a place has two sites.
 const TWO_SITES: &str = "two labels before one instruction name sites: write `nop` between them";
+
+/// What is said of words that give sites no fences; the names of the sites follow.
+const SITE_WORDS: &str = "each word is a site, `=` and a kind that has a price, and each site stands once; sites here:";
 
 /// What `solve --sites` answers of its files. The first file that has a fault ends the run: the fault is said here,
 /// with the name of the file, and nothing but its object is printed.
@@ -69,14 +76,14 @@ fn solved<'b, R: Files + Input + AllocGlobal + Threads + Sync>(
     prices: &[u8],
     blamed: &mut Papers<'b>,
 ) -> Result<Solved, Fault>
-    ensures { IfOk result (λ solved. (files : List SitesFile)
-        × IsSolved sites.now.json files prices.now (string_bytes solved.output.text) solved.output.status) }
+    ensures { IfOk result (λ solved. (tests : Questioned) × (tests.is_free ≡ sites.now.free)
+        × IsSolved sites.now.json tests prices.now (string_bytes solved.output.text) solved.output.status) }
 {
-    let files = read_files(rt, sources, blamed)?;
-    match answered(rt, sites, &files, prices) {
+    let tests = read_tests(rt, sources, sites.free, blamed)?;
+    match answered(rt, sites, &tests, prices) {
         Ok(solved) => Ok(solved),
         Err(fault) => {
-            blame(rt.alloc(), sources, &files, prices, fault, blamed)?;
+            blame(rt.alloc(), sources, &tests, prices, fault, blamed)?;
             Err(fault)
         }
     }
@@ -86,11 +93,11 @@ fn solved<'b, R: Files + Input + AllocGlobal + Threads + Sync>(
 fn answered<R: Files + AllocGlobal + Threads + Sync>(
     rt: &R,
     sites: &Sites<'_>,
-    files: &[File],
+    tests: &Tests,
     prices: &[u8],
 ) -> Result<Solved, Fault>
     ensures { IfOk result (λ solved.
-        IsSolved sites.now.json files.now prices.now (string_bytes solved.output.text) solved.output.status) }
+        IsSolved sites.now.json tests.now prices.now (string_bytes solved.output.text) solved.output.status) }
 {
     let limits = Limits {
         workers: sites.workers.clamp(1, MOST_WORKERS),
@@ -98,8 +105,8 @@ fn answered<R: Files + AllocGlobal + Threads + Sync>(
         steps: sites.nodes.clamp(1, MOST_NODES) as usize,
     };
     match sites.certificate {
-        Some(path) => certified(rt, path, files, prices, sites.json, limits),
-        None => run_sites(rt, rt.alloc(), files, prices, sites.json, limits),
+        Some(path) => certified(rt, path, tests, prices, sites.json, limits),
+        None => run_sites(rt, rt.alloc(), tests, prices, sites.json, limits),
     }
 }
 
@@ -107,15 +114,15 @@ fn answered<R: Files + AllocGlobal + Threads + Sync>(
 fn certified<R: Files + AllocGlobal + Threads + Sync>(
     rt: &R,
     path: &str,
-    files: &[File],
+    tests: &Tests,
     prices: &[u8],
     is_json: bool,
     limits: Limits,
 ) -> Result<Solved, Fault>
     ensures { IfOk result (λ solved.
-        IsSolved is_json files.now prices.now (string_bytes solved.output.text) solved.output.status) }
+        IsSolved is_json tests.now prices.now (string_bytes solved.output.text) solved.output.status) }
 {
-    let made = run_sites_certified(rt, rt.alloc(), files, prices, is_json, limits)?;
+    let made = run_sites_certified(rt, rt.alloc(), tests, prices, is_json, limits)?;
     let Some(certificate) = &made.certificate else {
         return Err(Fault::Unmatched);
     };
@@ -123,19 +130,26 @@ fn certified<R: Files + AllocGlobal + Threads + Sync>(
     Ok(made.solved)
 }
 
-/// The files, each read and checked before the next one, so that the first fault is that of the first file.
-fn read_files<'b, R: Files + Input + AllocGlobal>(
+/// The tests, of which each file is read and checked before the next one, so that the first fault is that of the first
+/// file.
+fn read_tests<'b, R: Files + Input + AllocGlobal>(
     rt: &R,
     sources: &'b [Source],
+    is_free: bool,
     blamed: &mut Papers<'b>,
-) -> Result<Vec<File>, Fault> {
+) -> Result<Tests, Fault>
+    ensures { IfOk result (λ tests. tests.is_free ≡ is_free) }
+{
     let mut files = Vec::new(rt.alloc());
     for source in sources {
         blamed.read_source(rt, source)?;
         check_file(rt.alloc(), &blamed.test.bytes)?;
         files.push(copied(rt.alloc(), &blamed.test)?)?;
     }
-    Ok(files)
+    Ok(Tests {
+        files: List::new(files),
+        is_free,
+    })
 }
 
 fn copied(alloc: Global, paper: &Paper<'_>) -> Result<File, AllocError> {
@@ -149,7 +163,7 @@ fn copied(alloc: Global, paper: &Paper<'_>) -> Result<File, AllocError> {
 fn blame<'b>(
     alloc: Global,
     sources: &'b [Source],
-    files: &[File],
+    tests: &Tests,
     prices: &[u8],
     fault: Fault,
     blamed: &mut Papers<'b>,
@@ -161,8 +175,8 @@ fn blame<'b>(
     ) {
         return Ok(());
     }
-    if let Some(number) = first_at_fault(alloc, files, prices, fault) {
-        if let (Some(source), Some(file)) = (sources.get(number), files.get(number)) {
+    if let Some(number) = first_at_fault(alloc, tests, prices, fault) {
+        if let (Some(source), Some(file)) = (sources.get(number), tests.files.get(number)) {
             blamed.test = Paper {
                 name: source.name.as_str(),
                 bytes: Vec::from_slice(alloc, &file.bytes)?,
@@ -186,7 +200,7 @@ pub(crate) fn answer_check_sites<'a, R: Files + Input + Eprint + AllocGlobal>(
     papers.read_evidence(rt, check.certificate, CERTIFICATE_LIMIT)?;
     let sources = sources(rt, &check.files)?;
     let mut blamed = Papers::new(rt.alloc());
-    match checked(rt, &sources, papers, &mut blamed) {
+    match checked(rt, &sources, check.free, papers, &mut blamed) {
         Ok(checked) => Ok(in_form(checked.output, checked.object, check.json)),
         Err(fault) => failed(rt, check.json, fault, voice, &blamed),
     }
@@ -196,19 +210,20 @@ pub(crate) fn answer_check_sites<'a, R: Files + Input + Eprint + AllocGlobal>(
 fn checked<'b, R: Files + Input + AllocGlobal>(
     rt: &R,
     sources: &'b [Source],
+    is_free: bool,
     papers: &Papers<'_>,
     blamed: &mut Papers<'b>,
 ) -> Result<Checked, Fault>
-    ensures { IfOk result (λ checked. (files : List SitesFile)
-        × IsSitesChecked files papers.now.prices.bytes.items papers.now.evidence.bytes.items
+    ensures { IfOk result (λ checked. (tests : Questioned) × (tests.is_free ≡ is_free)
+        × IsSitesChecked tests papers.now.prices.bytes.items papers.now.evidence.bytes.items
         (string_bytes checked.output.text) (string_bytes checked.object) checked.output.status) }
 {
-    let files = read_files(rt, sources, blamed)?;
+    let tests = read_tests(rt, sources, is_free, blamed)?;
     let (prices, certificate) = (&papers.prices.bytes, &papers.evidence.bytes);
-    match run_sites_check(rt.alloc(), &files, prices, certificate) {
+    match run_sites_check(rt.alloc(), &tests, prices, certificate) {
         Ok(checked) => Ok(checked),
         Err(fault) => {
-            blame(rt.alloc(), sources, &files, prices, fault, blamed)?;
+            blame(rt.alloc(), sources, &tests, prices, fault, blamed)?;
             Err(fault)
         }
     }
@@ -269,6 +284,30 @@ fn failure_of_file(alloc: Global, fault: Fault, voice: Voice, blamed: &Papers<'_
 fn clash_text(alloc: Global, fault: Fault, line: usize, name: &str) -> Result<String, AllocError> {
     let name = shown_name(alloc, name)?;
     format!(in alloc; "{}:{}: {}\n  {}\n", name.as_str(), line, fault, TWO_SITES)
+}
+
+/// The failure of words that give the sites of the file no fences: which sites it has.
+pub(crate) fn failure_of_words(alloc: Global, is_free: bool, papers: &Papers<'_>) -> Failure {
+    let fault = Fault::BadFence;
+    match words_text(alloc, is_free, papers) {
+        Ok(message) => Failure::Told(fault, message),
+        Err(_) => Failure::NoAnswer(fault),
+    }
+}
+
+/// The message of such words.
+fn words_text(alloc: Global, is_free: bool, papers: &Papers<'_>) -> Result<String, Fault> {
+    let bytes = papers.test.bytes.as_slice();
+    let test = read_test(alloc, bytes)?;
+    let copies = read_all_copies(alloc, bytes, &test, is_free)?;
+    let mut names = Vec::new(alloc);
+    add_copies(alloc, &mut names, &copies)?;
+    let mut text = format!(in alloc; "SITE: {}\n  {}", Fault::BadFence, SITE_WORDS)?;
+    for name in &names {
+        write!(text, " {}", name.as_str())?;
+    }
+    text.push_str("\n")?;
+    Ok(text)
 }
 
 /// The object of a fault.

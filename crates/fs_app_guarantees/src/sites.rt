@@ -5,7 +5,7 @@ ghost use Rattle.fs_app_io.specs.declared.status.Status.{Status};
 ghost use Rattle.fs_sites.specs.Answers.{IsAnswer};
 ghost use Rattle.fs_sites.specs.declared.answer.Answer.{Answer};
 ghost use Rattle.fs_sites.specs.Questions.{Question};
-ghost use Rattle.fs_app_sites.specs.declared.content.File.{File};
+ghost use Rattle.fs_app_sites.specs.declared.content.Tests.{Tests};
 ghost use Rattle.fs_app_sites.specs.Sites.{names_of, question_of};
 ghost use Rattle.fs_app_sites.specs.Solved.{IsSolved};
 ghost use Rattle.fs_app_guarantees.specs.Sites.{IsTrueOfSites};
@@ -15,7 +15,7 @@ ghost use Rattle.fs_app_guarantees.specs.Sites.{IsTrueOfSites};
 /// does. Beside `none` some program does whatever stands at the sites. So it is of the question that its files ask.
 pub fn sites_are_true()
     ensures answers { (q : Question) (a : Answer) → IsAnswer q a → IsTrueOfSites q a }
-    ensures files { (is_json : Bool) (files : List File) (prices text : List ℕ) (status : Status)
-        (solved : IsSolved is_json files prices text status)
+    ensures files { (is_json : Bool) (tests : Tests) (prices text : List ℕ) (status : Status)
+        (solved : IsSolved is_json tests prices text status)
         → IsTrueOfSites (question_of solved.table (names_of solved.contents) solved.contents) solved.found }
 {}

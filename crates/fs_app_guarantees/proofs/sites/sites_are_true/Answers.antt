@@ -6,5 +6,5 @@ pub returns-clause-answers : goal.returns-clause-answers
 returns-clause-answers c = true_of_sites
 
 pub returns-clause-files : goal.returns-clause-files
-returns-clause-files c = λ is_json files prices text status solved.
+returns-clause-files c = λ is_json tests prices text status solved.
     true_of_sites (question_of solved.table (names_of solved.contents) solved.contents) solved.found solved.answer
