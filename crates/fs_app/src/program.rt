@@ -465,33 +465,25 @@ fn placed(alloc: Global, place: &Place<'_>, papers: &Papers<'_>) -> Result<Outpu
         (offered place.now papers.now) (map string_bytes place.now.fences.items) (string_bytes output.text)) }
     ensures status { IfOk result (λ output. output.status ≡ Success) }
 {
-    let prices = offered(place, papers);
-    fenced(
-        alloc,
-        (place.sites, place.free),
-        &papers.test.bytes,
-        prices,
-        &place.fences,
-    )
+    fenced(alloc, place, &papers.test.bytes, offered(place, papers))
 }
 
-/// The test with the fences of slots; or, where that is set first, of sites, among them slots where this is set second.
+/// The test with the fences, of slots or of sites.
 fn fenced(
     alloc: Global,
-    of: (bool, bool),
+    place: &Place<'_>,
     test: &[u8],
     prices: Option<&[u8]>,
-    words: &[String],
 ) -> Result<Output, Fault>
-    ensures text { IfOk result (λ output. IsPlacedText of.0 of.1 test.now (option_copied prices.entry)
-        (map string_bytes words.now) (string_bytes output.text)) }
+    ensures text { IfOk result (λ output. IsPlacedText place.now.sites place.now.free test.now
+        (option_copied prices.entry) (map string_bytes place.now.fences.items) (string_bytes output.text)) }
     ensures status { IfOk result (λ output. output.status ≡ Success) }
-    ensures fault { IfErr result (IsPlaceFault of.0 of.1 test.now (option_copied prices.entry)
-        (map string_bytes words.now)) }
+    ensures fault { IfErr result (IsPlaceFault place.now.sites place.now.free test.now (option_copied prices.entry)
+        (map string_bytes place.now.fences.items)) }
 {
-    let (has_sites, is_free) = of;
-    if has_sites {
-        run_place_sites(alloc, test, prices, words, is_free)
+    let words = &place.fences;
+    if place.sites {
+        run_place_sites(alloc, test, prices, words, place.free)
     } else {
         run_place(alloc, test, prices, words)
     }
@@ -509,7 +501,7 @@ fn answer_order<'a, R: Files + Input + AllocGlobal>(
     }
     papers.read_test(rt, order.test)?;
     papers.read_evidence(rt, order.witness, INPUT_LIMIT)?;
-    let verdict = ordered(rt.alloc(), (order.sites, order.free), papers, &order.fences)?;
+    let verdict = ordered(rt.alloc(), order, papers)?;
     let below = order_why(rt.alloc(), order.why, papers, &order.fences)?;
     if let Some(folder) = order.dot {
         draw_ordered(rt, folder, papers)?;
@@ -519,21 +511,17 @@ fn answer_order<'a, R: Files + Input + AllocGlobal>(
 }
 
 /// The verdict on the witness that was read, in the test with the same fences.
-fn ordered(
-    alloc: Global,
-    of: (bool, bool),
-    papers: &Papers<'_>,
-    words: &[String],
-) -> Result<Output, Fault>
-    ensures answer { IfOk result (λ output. IsOrderText of.0 of.1 papers.now.test.bytes.items
-        papers.now.evidence.bytes.items (map string_bytes words.now) (string_bytes output.text) output.status) }
-    ensures fault { IfErr result (IsOrderFault of.0 of.1 papers.now.test.bytes.items
-        papers.now.evidence.bytes.items (map string_bytes words.now)) }
+fn ordered(alloc: Global, order: &Order<'_>, papers: &Papers<'_>) -> Result<Output, Fault>
+    ensures answer { IfOk result (λ output. IsOrderText order.now.sites order.now.free papers.now.test.bytes.items
+        papers.now.evidence.bytes.items (map string_bytes order.now.fences.items) (string_bytes output.text)
+        output.status) }
+    ensures fault { IfErr result (IsOrderFault order.now.sites order.now.free papers.now.test.bytes.items
+        papers.now.evidence.bytes.items (map string_bytes order.now.fences.items)) }
 {
     let (test, witness) = (&papers.test.bytes, &papers.evidence.bytes);
-    let (has_sites, is_free) = of;
-    if has_sites {
-        run_order_sites(alloc, test, witness, words, is_free)
+    let words = &order.fences;
+    if order.sites {
+        run_order_sites(alloc, test, witness, words, order.free)
     } else {
         run_order(alloc, test, witness, words)
     }
