@@ -1,0 +1,5 @@
+pub mod Copies
+pub mod Marks
+pub mod Lines
+pub mod Printed
+pub mod Audited
