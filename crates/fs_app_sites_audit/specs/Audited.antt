@@ -18,7 +18,8 @@ use Rattle.fs_app_sites.specs.SitePrices.{AreSitePrices, IsSitePricesFault}
 use Rattle.fs_app_sites.specs.Sites.{names_of, offers_of, question_of}
 use Rattle.fs_app_sites_audit.specs.Copies.{AreHeld, Held, IsFilesFault}
 use Rattle.fs_app_sites_audit.specs.Marks.{marks_of, written_cost}
-use Rattle.fs_app_sites_audit.specs.Printed.{Findings, audit_text, status_of}
+use Rattle.fs_app_sites_audit.specs.Objects.{shown_text}
+use Rattle.fs_app_sites_audit.specs.Printed.{Findings, status_of}
 
 -- ---- as they are written
 
@@ -63,7 +64,7 @@ findings_of prices held kinds found = record {
 
 -- what the files hold, what is said of them as they are written, and the answer to the question without the copies'
 -- FENCEs are printed
-pub record IsAudited (files : List File) (prices text : List ℕ) (status : Status) : Type 0 where
+pub record IsAudited (is_json : Bool) (files : List File) (prices text : List ℕ) (status : Status) : Type 0 where
   pub table : Data
   pub held : List Held
   pub kinds : List Kind
@@ -72,7 +73,7 @@ pub record IsAudited (files : List File) (prices text : List ℕ) (status : Stat
   pub read : AreHeld files held
   pub answer : IsAnswer (asked_of table held) found
   pub said : AreSaid files kinds
-  pub shown : text ≡ audit_text files (findings_of table held kinds found)
+  pub shown : text ≡ shown_text is_json files (findings_of table held kinds found)
   pub ends : status ≡ status_of (findings_of table held kinds found)
 
 -- the first fault: of the prices, else of the files, else of the search, else of what is said of the files as they are

@@ -25,7 +25,7 @@ pub(crate) struct Asked {
     pub question: Question,
     pub names: List<String>,
     pub marks: List<Mark>,
-    pub written: Option<u128>,
+    pub written: Option<u64>,
 }
 
 /// The names of the sites of all files, in the order in which they first stand.

@@ -7,7 +7,7 @@ ghost use Rattle.fs_app_sites_audit.specs.Audited.{IsAudited, IsFirstFault};
 use crate::asked::{Asked, asked_of};
 use crate::findings::Findings;
 use crate::held::read_files;
-use crate::print::printed;
+use crate::output::printed;
 use crate::said::{said_of_files, together};
 use fs_app_io::Output;
 use fs_app_sites::{File, read_site_prices};
@@ -28,7 +28,7 @@ use std::alloc::Global;
 /// the cheapest does that orders all that it orders. Then come, site by site, a line for each fence that its copies have,
 /// with what is advised and where they stand, each line of a file once; none for copies that have none and are to have
 /// none. Where no fences rule the outcomes out there is none of them, but the first file whose outcome is shown with
-/// `rw,rw` at every site, and an execution that shows it. The status is 4 where all outcomes are vacuous, else 1 where
+/// `rw,rw` at every site, and an execution that shows it. Or the same is a JSON object. The status is 4 where all outcomes are vacuous, else 1 where
 /// one is possible or something is to be changed, else 0. The files are bytes as they were read. One worker searches, and
 /// no contract says how long.
 ///
@@ -41,10 +41,12 @@ pub fn run_audit_sites(
     alloc: Global,
     files: &[File],
     prices: &[u8],
+    is_json: bool,
     most_rounds: usize,
     most_steps: usize,
 ) -> Result<Output, Fault>
-    ensures answer { IfOk result (λ output. IsAudited files.now prices.now (string_bytes output.text) output.status) }
+    ensures answer { IfOk result (λ output. IsAudited is_json files.now prices.now (string_bytes output.text)
+        output.status) }
     ensures fault { IfErr result (IsFirstFault files.now prices.now) }
 {
     let table = read_site_prices(alloc, prices)?;
@@ -52,7 +54,12 @@ pub fn run_audit_sites(
     let asked = asked_of(alloc, &held, &table)?;
     let found = solve(alloc, &asked.question, most_rounds, most_steps)?;
     let kinds = said_of_files(alloc, files)?;
-    Ok(printed(alloc, files, &findings_of(asked, together(&kinds), found))?)
+    Ok(printed(
+        alloc,
+        files,
+        &findings_of(asked, together(&kinds), found),
+        is_json,
+    )?)
 }
 
 /// What is found.

@@ -1,8 +1,8 @@
 //! What the FENCEs of sites cost as they are written.
 
-ghost use Rattle.std.specs.Prelude.{◌≡◌, ◌≤◌, ◌+◌, ◌*◌, ◌<◌, ◌^◌, length};
-ghost use Rattle.fs_kinds.specs.Kind.{all_kinds};
+ghost use Rattle.std.specs.Prelude.{◌≡◌, ◌≤◌, length};
 ghost use Rattle.fs_board_offers.specs.Breaks.{least_of};
+ghost use Rattle.fs_app_sites.specs.Sites.{most_sites};
 ghost use Rattle.fs_app_sites_audit.specs.Marks.{cost_from, fence_cost, price_above, written_cost};
 
 use crate::marks::{Mark, agree, own_fence};
@@ -47,18 +47,20 @@ fn fence_cost(offer: &Offer, fence: Option<Kind>) -> u32
 }
 
 /// What the FENCEs of all sites cost, once for all copies of each.
-fn own_cost(marks: &[Mark], offers: &[Offer]) -> u128
+fn own_cost(marks: &[Mark], offers: &[Offer]) -> u64
+    requires { length offers.now ≤ most_sites }
     ensures { result ≡ cost_from marks.now 0 offers.now }
 {
     let mut cost = 0;
     for (site, offer) in offers.iter().enumerate() {
-        cost += u128::from(fence_cost(offer, own_fence(marks, site)));
+        cost += u64::from(fence_cost(offer, own_fence(marks, site)));
     }
     cost
 }
 
 /// The same where the copies of each site agree. The square of the copies, and each copy is looked at for each site.
-pub(crate) fn written_cost(marks: &[Mark], offers: &[Offer]) -> Option<u128>
+pub(crate) fn written_cost(marks: &[Mark], offers: &[Offer]) -> Option<u64>
+    requires { length offers.now ≤ most_sites }
     ensures { result ≡ written_cost marks.now offers.now }
 {
     if agree(marks) {

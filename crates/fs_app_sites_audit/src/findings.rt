@@ -19,7 +19,7 @@ pub(crate) struct Findings {
     /// The copies as they are written.
     pub marks: List<Mark>,
     /// What they cost, where copies agree.
-    pub written: Option<u128>,
+    pub written: Option<u64>,
     /// What is said of all files together as they are written.
     pub kind: Kind,
     /// The answer to the question without the copies' FENCEs.

@@ -10,6 +10,8 @@ mod findings;
 mod held;
 mod lines;
 mod marks;
+mod objects;
+mod output;
 mod print;
 mod said;
 

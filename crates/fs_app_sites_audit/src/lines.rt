@@ -28,11 +28,11 @@ pub struct Line {
 // ---- what is advised
 
 /// Is what is written what is advised, since copies agree, each outcome is forbidden, and nothing costs less?
-pub(crate) fn is_kept(kind: Verdict, written: Option<u128>, cheapest: u64) -> bool
+pub(crate) fn is_kept(kind: Verdict, written: Option<u64>, cheapest: u64) -> bool
     ensures { result ≡ is_kept kind written cheapest }
 {
     match (kind, written) {
-        (Verdict::Forbidden, Some(written)) => written <= u128::from(cheapest),
+        (Verdict::Forbidden, Some(written)) => written <= cheapest,
         _ => false,
     }
 }

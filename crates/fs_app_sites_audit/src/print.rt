@@ -1,21 +1,20 @@
-//! What `audit --sites` prints, and its exit status.
+//! What `audit --sites` prints in lines.
 
 ghost use Rattle.std.specs.Prelude.{◌≡◌, ◌++◌, [], IfOk, OnOk, map, string_bytes};
 ghost use Rattle.std.specs.List.{flat_map, slice_index_or};
-ghost use Rattle.fs_app_sites_audit.specs.Printed.{audit_text, below, cheapest_text, content_status, fence_text};
-ghost use Rattle.fs_app_sites_audit.specs.Printed.{first_line, found_lines, line_text, row_text, shown_lines};
-ghost use Rattle.fs_app_sites_audit.specs.Printed.{status_by, status_of, width, written_text};
+ghost use Rattle.fs_app_sites_audit.specs.Printed.{audit_text, below, cheapest_text, fence_text, first_line};
+ghost use Rattle.fs_app_sites_audit.specs.Printed.{found_lines, line_text, row_text, shown_lines, width};
+ghost use Rattle.fs_app_sites_audit.specs.Printed.{written_text};
 ghost use Rattle.fs_app_sites.specs.Printed.{name_at};
 ghost use Rattle.fs_app_test.specs.Report.{padded};
 ghost use Rattle.fs_app_audit.specs.Report.{advice_text};
 ghost use Rattle.fs_instr.specs.declared.instr.Instr.TheVariants.{FenceTso};
 
-use crate::findings::{Findings, found_lines};
-use crate::lines::{Line, are_content};
+use crate::findings::Findings;
+use crate::lines::Line;
 use crate::marks::Row;
 use fs_app_audit::{Advice, advice_text};
 use fs_app_error_messages::shown_name;
-use fs_app_io::{Output, Status};
 use fs_app_sites::File;
 use fs_app_test::{Kind as Verdict, kind_text, padded};
 use fs_cert_evidence::Witness;
@@ -33,7 +32,7 @@ const ADVICE_WIDTH: usize = 16;
 // ---- the first line
 
 /// What the FENCEs cost, where copies agree.
-fn written_text(alloc: Global, written: Option<u128>) -> Result<String, AllocError>
+fn written_text(alloc: Global, written: Option<u64>) -> Result<String, AllocError>
     ensures { IfOk result (λ text. string_bytes text ≡ written_text written) }
 {
     match written {
@@ -55,7 +54,7 @@ fn cheapest_text(alloc: Global, answer: &Answer) -> Result<String, AllocError>
 fn first_line(
     alloc: Global,
     kind: Verdict,
-    written: Option<u128>,
+    written: Option<u64>,
     answer: &Answer,
 ) -> Result<String, AllocError>
     ensures { IfOk result (λ text. string_bytes text ≡ first_line kind written answer.now) }
@@ -72,7 +71,7 @@ fn first_line(
 
 // ---- a line of a site
 
-fn fence_text(fence: Option<Kind>) -> &'static str
+pub(crate) fn fence_text(fence: Option<Kind>) -> &'static str
     ensures { result.now ≡ fence_text fence }
 {
     match fence {
@@ -92,7 +91,7 @@ fn width(names: &[String]) -> usize
     most
 }
 
-fn site_name(names: &[String], site: usize) -> &str
+pub(crate) fn site_name(names: &[String], site: usize) -> &str
     ensures { result.now ≡ slice_index_or (map string_bytes names.now) site [] }
 {
     match names.get(site) {
@@ -101,7 +100,7 @@ fn site_name(names: &[String], site: usize) -> &str
     }
 }
 
-fn file_name(files: &[File], number: usize) -> &str
+pub(crate) fn file_name(files: &[File], number: usize) -> &str
     ensures { result.now ≡ name_at files.now number }
 {
     match files.get(number) {
@@ -129,12 +128,18 @@ fn rows_text(alloc: Global, files: &[File], rows: &[Row]) -> Result<String, Allo
     Ok(text)
 }
 
-/// What is advised, padded.
+/// What is advised of memory, as of a FENCE that names no devices.
+pub(crate) fn said_text(alloc: Global, advice: Advice) -> Result<String, AllocError>
+    ensures { IfOk result (λ text. string_bytes text ≡ advice_text FenceTso advice) }
+{
+    advice_text(alloc, Instr::FenceTso, advice)
+}
+
+/// The same, padded.
 fn advice_cell(alloc: Global, advice: Advice) -> Result<String, AllocError>
     ensures { IfOk result (λ text. string_bytes text ≡ padded 16 (advice_text FenceTso advice)) }
 {
-    // of a FENCE that names no devices
-    let text = advice_text(alloc, Instr::FenceTso, advice)?;
+    let text = said_text(alloc, advice)?;
     padded(alloc, ADVICE_WIDTH, text.as_str())
 }
 
@@ -181,7 +186,7 @@ fn lines_text(
 // ---- the whole
 
 /// The name of the file whose outcome can't be ruled out, and the witness's text.
-fn shown_text(alloc: Global, name: &str, witness: &Witness) -> Result<String, AllocError>
+fn witness_lines(alloc: Global, name: &str, witness: &Witness) -> Result<String, AllocError>
     ensures { IfOk result (λ text. string_bytes text ≡ shown_lines name.now witness.now.witness) }
 {
     let name = shown_name(alloc, name)?;
@@ -202,12 +207,12 @@ fn below(
 {
     match answer {
         Answer::Fenced { .. } => lines_text(alloc, files, names, lines),
-        Answer::None { part, witness } => shown_text(alloc, file_name(files, *part), witness),
+        Answer::None { part, witness } => witness_lines(alloc, file_name(files, *part), witness),
     }
 }
 
-/// The text of these lines.
-fn audit_text(
+/// What is printed of what was found in these files, of which these are the lines. Fails only for want of memory.
+pub(crate) fn audit_text(
     alloc: Global,
     files: &[File],
     findings: &Findings,
@@ -221,46 +226,4 @@ fn audit_text(
     let below = below(alloc, files, &findings.names, lines, found)?;
     text.push_str(below.as_str())?;
     Ok(text)
-}
-
-// ---- the exit status
-
-fn content_status(lines: &[Line], answer: &Answer) -> Status
-    ensures { result ≡ content_status lines.now answer.now }
-{
-    match answer {
-        Answer::Fenced { .. } => {
-            if are_content(lines) {
-                Status::Success
-            } else {
-                Status::Denied
-            }
-        }
-        Answer::None { .. } => Status::Denied,
-    }
-}
-
-fn status_by(kind: Verdict, lines: &[Line], answer: &Answer) -> Status
-    ensures { result ≡ status_by kind lines.now answer.now }
-{
-    match kind {
-        Verdict::Vacuous => Status::Vacuous,
-        Verdict::Forbidden => content_status(lines, answer),
-        _ => Status::Denied,
-    }
-}
-
-/// What is printed of what was found in these files. Fails only for want of memory.
-pub(crate) fn printed(
-    alloc: Global,
-    files: &[File],
-    findings: &Findings,
-) -> Result<Output, AllocError>
-    ensures text { IfOk result (λ output. string_bytes output.text ≡ audit_text files.now findings.now) }
-    ensures status { IfOk result (λ output. output.status ≡ status_of findings.now) }
-{
-    let lines = found_lines(alloc, findings)?;
-    let text = audit_text(alloc, files, findings, &lines)?;
-    let status = status_by(findings.kind, &lines, &findings.found);
-    Ok(Output { text, status })
 }
