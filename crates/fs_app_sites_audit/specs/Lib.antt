@@ -1,0 +1,6 @@
+pub mod Copies
+pub mod Marks
+pub mod Lines
+pub mod Printed
+pub mod Objects
+pub mod Audited

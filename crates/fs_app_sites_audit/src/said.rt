@@ -1,0 +1,58 @@
+//! What is said of files as they are written.
+
+ghost use Rattle.std.specs.Prelude.{◌≡◌, ◌≢◌, IfOk, IfErr};
+ghost use Rattle.std.specs.List.{list_any};
+ghost use Rattle.fs_kinds.specs.declared.fault.Fault.TheVariants.{Memory};
+ghost use Rattle.fs_app_test.specs.Status.{is_kind};
+ghost use Rattle.fs_app_test.specs.Verdicts.{IsFirstTestFault};
+ghost use Rattle.fs_app_sites_audit.specs.Audited.{AreSaid, IsSaidFault, IsSaidOf, together};
+
+use fs_app_sites::File;
+use fs_app_test::{Kind, judge_test};
+use fs_kinds::Fault;
+use fs_litmus::read_test;
+use std::alloc::Global;
+use std::sync::Arc;
+
+/// What is said of the bytes of a file.
+fn said_of(alloc: Global, bytes: &[u8]) -> Result<Kind, Fault>
+    ensures ok { IfOk result (IsSaidOf bytes.now) }
+    ensures err { IfErr result (IsFirstTestFault bytes.now) }
+{
+    let test = read_test(alloc, bytes)?;
+    let test = Arc::new(alloc, test)?;
+    let said = judge_test(alloc, &test)?;
+    Ok(said.kind)
+}
+
+/// What is said of each file. The first fault of each file in turn, as `test` answers it. Each is read and judged as it
+/// is written.
+pub(crate) fn said_of_files(alloc: Global, files: &[File]) -> Result<Vec<Kind>, Fault>
+    ensures ok { IfOk result (λ kinds. AreSaid files.now kinds.items) }
+    ensures err { IfErr result (λ f. f ≢ Memory → IsSaidFault files.now f) }
+{
+    let mut kinds = Vec::new(alloc);
+    for file in files {
+        kinds.push(said_of(alloc, &file.bytes)?)?;
+    }
+    Ok(kinds)
+}
+
+fn has(kind: Kind, kinds: &[Kind]) -> bool
+    ensures { result ≡ list_any (is_kind kind) kinds.now }
+{
+    kinds.iter().any(|other| kind == *other)
+}
+
+/// What is said of all together: allowed where one is, else forbidden where one is.
+pub(crate) fn together(kinds: &[Kind]) -> Kind
+    ensures { result ≡ together kinds.now }
+{
+    if has(Kind::Allowed, kinds) {
+        Kind::Allowed
+    } else if has(Kind::Forbidden, kinds) {
+        Kind::Forbidden
+    } else {
+        Kind::Vacuous
+    }
+}
