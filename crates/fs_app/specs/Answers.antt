@@ -12,7 +12,9 @@ use Rattle.fs_report.specs.Objects.{AreOneAnswer}
 use Rattle.fs_app_solve.specs.Solve.{IsSolved}
 use Rattle.fs_app_solve_text.specs.Inserted.{IsInserted}
 use Rattle.fs_app_sites.specs.Solved.{IsSolved as IsSitesSolved}
+use Rattle.fs_app_sites.specs.declared.content.File.{File}
 use Rattle.fs_app_sites.specs.declared.content.Tests.{Tests}
+use Rattle.fs_app_sites_audit.specs.Audited.{IsAudited as IsSitesAudited}
 use Rattle.fs_app_sites_check.specs.Checked.{IsSitesChecked}
 use Rattle.fs_app_audit.specs.Audit.{IsAnew, IsAudited, IsWritten, IsFirstAnewFault, IsFirstAuditFault, IsFirstWrittenFault}
 use Rattle.fs_app_audit.specs.Blocks.{AreBlocks, are_named, blocks_status, blocks_text}
@@ -39,6 +41,7 @@ use Rattle.fs_app_command_line.specs.declared.command.Order.{Order}
 use Rattle.fs_app_command_line.specs.declared.command.Solve.{Solve}
 use Rattle.fs_app_command_line.specs.declared.command.Sites.{Sites}
 use Rattle.fs_app_command_line.specs.declared.command.Audit.{Audit}
+use Rattle.fs_app_command_line.specs.declared.command.AuditSites.{AuditSites}
 use Rattle.fs_app_command_line.specs.declared.command.Check.{Check}
 use Rattle.fs_app_command_line.specs.declared.command.CheckSites.{CheckSites}
 use Rattle.fs_app_files.specs.declared.papers.Papers.{Papers}
@@ -216,6 +219,14 @@ pub data AnswersCheckSites (check : CheckSites) (papers : Papers) (output : Outp
       → AnswersCheckSites check papers output
   refused : output.status ≡ Failure → AnswersCheckSites check papers output
 
+-- what is said of the FENCEs at the sites of some files at the prices that were read; or nothing, since a file has a
+-- fault
+pub data AnswersAuditSites (audit : AuditSites) (papers : Papers) (output : Output) : Type 0 where
+  audited : (files : List File) → papers.prices.name.now ≡ audit.prices.now
+      → IsSitesAudited audit.json files papers.prices.bytes.items (string_bytes output.text) output.status
+      → AnswersAuditSites audit papers output
+  refused : output.status ≡ Failure → AnswersAuditSites audit papers output
+
 -- The text, but for what is told below it, and the status are those of the same lines. Each says what is true of some
 -- bytes, or of a file that wasn't read; what is told is told of these bytes.
 pub record AnswersLines (test : Test) (output : Output) : Type 0 where
@@ -245,6 +256,7 @@ Answers (task.Order order) papers output = AnswersOrder order papers output
 Answers (task.Solve solve) papers output = AnswersSolve solve papers output
 Answers (task.Sites sites) papers output = AnswersSites sites papers output
 Answers (task.Audit audit) papers output = AnswersAudit audit papers output
+Answers (task.AuditSites audit) papers output = AnswersAuditSites audit papers output
 Answers (task.Check check) papers output = AnswersCheck check papers output
 Answers (task.CheckSites check) papers output = AnswersCheckSites check papers output
 Answers (task.Completions shell) papers output = output.status ≡ Success

@@ -1,6 +1,7 @@
 //! The program without its `main`: a run from the command line to the exit status, and what each command answers.
 #![tactic(auto)]
 
+mod audit_sites;
 mod audits;
 mod failure;
 mod pictures;

@@ -15,6 +15,7 @@ ghost use Rattle.fs_app.specs.Answers.{AnswersTest, AnswersPlace, IsOrderFault, 
 ghost use Rattle.fs_app.specs.Answers.{AnswersLines, AnswersOrder, AnswersSolve, AnswersCheck};
 ghost use Rattle.fs_app.specs.Telling.{is_yes, telling_of};
 
+use crate::audit_sites::answer_audit_sites;
 use crate::audits::answer_audit;
 use crate::failure::Failure;
 use crate::pictures::{draw_certified, draw_found, draw_ordered, draw_tests};
@@ -282,6 +283,7 @@ fn answer<'a, R: Files + Input + Eprint + AllocGlobal + Clock + Threads + Wait +
         Task::Solve(solve) => answer_solve(rt, solve, voice, papers),
         Task::Sites(sites) => answer_sites(rt, sites, voice, papers),
         Task::Audit(audit) => answer_audit(rt, audit, voice, papers),
+        Task::AuditSites(audit) => answer_audit_sites(rt, audit, voice, papers),
         Task::Check(check) => answer_check(rt, check, papers),
         Task::CheckSites(check) => answer_check_sites(rt, check, voice, papers),
         Task::Completions(shell) => Ok(Output {

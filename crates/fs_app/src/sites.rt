@@ -27,7 +27,7 @@ use std::rt::Files;
 use std::thread::Threads;
 
 /// The most rounds of plan and verdicts.
-const MOST_ROUNDS: usize = 100_000;
+pub(crate) const MOST_ROUNDS: usize = 100_000;
 
 /// What is said where no label names a site.
 const NO_SITE: &str = "note: no file has a label that names a site\n";
@@ -132,7 +132,7 @@ fn certified<R: Files + AllocGlobal + Threads + Sync>(
 
 /// The tests, of which each file is read and checked before the next one, so that the first fault is that of the first
 /// file.
-fn read_tests<'b, R: Files + Input + AllocGlobal>(
+pub(crate) fn read_tests<'b, R: Files + Input + AllocGlobal>(
     rt: &R,
     sources: &'b [Source],
     is_free: bool,
@@ -160,7 +160,7 @@ fn copied(alloc: Global, paper: &Paper<'_>) -> Result<File, AllocError> {
 }
 
 /// Leaves in `blamed` the file to which a fault of the search is due, and nothing where it is due to none.
-fn blame<'b>(
+pub(crate) fn blame<'b>(
     alloc: Global,
     sources: &'b [Source],
     tests: &Tests,
@@ -230,7 +230,7 @@ fn checked<'b, R: Files + Input + AllocGlobal>(
 }
 
 /// Says the fault of a file, and answers its object where JSON is asked for.
-fn failed<R: Files + Eprint + AllocGlobal>(
+pub(crate) fn failed<R: Files + Eprint + AllocGlobal>(
     rt: &R,
     is_json: bool,
     fault: Fault,
