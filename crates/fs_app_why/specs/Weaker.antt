@@ -16,7 +16,7 @@ orders_less kind other = no_stronger kind other && not (no_stronger other kind)
 
 -- those of the kinds than which none of them orders more
 abbrev pub strongest : List Kind → List Kind
-strongest kinds = filter (λ kind. not (list_any (orders_less kind) kinds)) kinds
+strongest kinds = filter (λ kind. not (list_any (λ other. orders_less kind other) kinds)) kinds
 
 -- a kind serves where the execution shows the outcome also with a fence of this kind in the slot
 abbrev pub Serve : Test → List Entry → Slot → Execution → (serves : Kind → Bool) → Type 0
@@ -26,7 +26,7 @@ Serve t p slot e serves = (kind : Kind) → Decides (serves kind) (Shows t (with
 abbrev pub weaker_that : (serves : Kind → Bool) → Kind → List Kind
 weaker_that serves kind = strongest (filter (λ other. orders_less other kind && serves other) all_kinds)
 
--- such as `, or with r,r or tso there`
+-- such as `, or with r,r or w,w there`
 abbrev pub kinds_there : List Kind → List ℕ
 kinds_there [] = []
 kinds_there (kind ∷ kinds) =

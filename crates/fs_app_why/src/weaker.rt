@@ -1,6 +1,6 @@
 //! Which weaker fences can stand in the place of one in an execution without it.
 
-ghost use Rattle.std.specs.Prelude.{◌≡◌, ◌&&◌, ◌++◌, not, Some, filter, IfOk, IsOkUnless, IsTrue, string_bytes};
+ghost use Rattle.std.specs.Prelude.{◌≡◌, ◌&&◌, ◌++◌, codes, filter, length, IfOk, IsOkUnless, IsTrue, string_bytes};
 ghost use Rattle.std.specs.List.{flat_map, list_all, list_any};
 ghost use Rattle.fs_kinds.specs.declared.fault.Fault.TheVariants.{Memory};
 ghost use Rattle.fs_kinds.specs.Kind.{all_kinds, word};
@@ -80,24 +80,22 @@ fn orders_less(kind: Kind, other: Kind) -> bool
     kind.no_stronger(other) && !other.no_stronger(kind)
 }
 
-/// Does none of the kinds order more?
-fn is_strongest(kinds: &[Kind], kind: Kind) -> bool
-    ensures { result ≡ not (list_any (orders_less kind) kinds.now) }
+/// Does one of the kinds order more?
+fn is_exceeded(kinds: &[Kind], kind: Kind) -> bool
+    ensures { result ≡ list_any (λ other. orders_less kind other) kinds.now }
 {
-    !kinds.iter().any(|other| orders_less(kind, *other))
+    kinds.iter().any(|other| orders_less(kind, *other))
 }
 
 /// Those of the kinds than which none of them orders more.
 fn strongest(alloc: Global, kinds: &[Kind]) -> Result<Vec<Kind>, AllocError>
     ensures { IfOk result (λ found. found.items ≡ strongest kinds.now) }
 {
-    let mut found = Vec::new(alloc);
-    for kind in kinds {
-        if is_strongest(kinds, *kind) {
-            found.push(*kind)?;
-        }
-    }
-    Ok(found)
+    kinds
+        .iter()
+        .copied()
+        .filter(|kind| !is_exceeded(kinds, *kind))
+        .collect(alloc)
 }
 
 /// The kinds that order less than that of the fence, and with which in its place the order keeps what fences order.
@@ -158,7 +156,7 @@ fn others_text(alloc: Global, kinds: &[Kind]) -> Result<String, AllocError>
     Ok(text)
 }
 
-/// Such as `, or with r,r or tso there`.
+/// Such as `, or with r,r or w,w there`.
 fn kinds_there(alloc: Global, kinds: &[Kind]) -> Result<String, AllocError>
     ensures { IfOk result (λ text. string_bytes text ≡ kinds_there kinds.now) }
 {

@@ -16,7 +16,8 @@ keeps_fence x p order a b = not (po x a b && fence_between x p a b) || stands_be
 
 abbrev pub keeps_fences : PreExecution → List Entry → (order : List ℕ) → Bool
 keeps_fences x p order =
-    list_all (λ a. list_all (keeps_fence x p order a) (numbers_below (length (operations x)))) (numbers_below (length (operations x)))
+    list_all (λ a. list_all (keeps_fence x p order a) (numbers_below (length (operations x))))
+    (numbers_below (length (operations x)))
 
 -- with a fence of this kind in the slot
 abbrev pub keeps_kind : PreExecution → List Entry → Slot → (order : List ℕ) → Kind → Bool
