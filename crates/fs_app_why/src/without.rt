@@ -205,8 +205,8 @@ pub fn asked(telling: Telling, entry: Entry) -> Entry
 }
 
 /// What is told of each fence that is asked for, in the order of their slots: which of these kinds of contradictions
-/// it is in, and where one of the witnesses shows the outcome without it, an execution of the first that does. The error
-/// is F19.
+/// it is in, and where one of the witnesses shows the outcome without it, an execution of the first that does, and which
+/// weaker fences would let that through. The error is F19.
 pub(crate) fn fences_text(
     alloc: Global,
     test: &Test,
