@@ -30,11 +30,11 @@ module _ (t : Test) (e : Execution) (p q : List Entry) (shows : Shows t p e) whe
   kept keeps a b h = elim (or_cases _ _ ((joined x q (source_in x e.order) a b).0 h)) [
     | inl own ↦ shows.execution.axioms.preserved a b ((joined x p (source_in x e.order) a b).1 (or_left _ _ own))
     | inr placed ↦ (
-      let parts = and_parts (po x a b) (placed_between x q a b) placed in
-      let there = po_in_range x a b parts.0 in
-      implied _ _ (each_two_below (keeps_fence x q e.order) (length (operations x)) a b keeps there.0 there.1)
-      (and_from (po x a b) (fence_between x q a b) parts.0
-      (or_right (unplaced.fence_between x a b) (placed_between x q a b) parts.1)))
+        let parts = and_parts (po x a b) (placed_between x q a b) placed in
+        let there = po_in_range x a b parts.0 in
+        implied _ _ (each_two_below (keeps_fence x q e.order) (length (operations x)) a b keeps there.0 there.1)
+        (and_from (po x a b) (fence_between x q a b) parts.0
+        (or_right (unplaced.fence_between x a b) (placed_between x q a b) parts.1)))
   ]
 
   shown : keeps_fences x q e.order ≡ true → Shows t q e
