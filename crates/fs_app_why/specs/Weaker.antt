@@ -22,9 +22,9 @@ strongest kinds = filter (λ kind. not (list_any (λ other. orders_less kind oth
 abbrev pub Serve : Test → List Entry → Slot → Execution → (serves : Kind → Bool) → Type 0
 Serve t p slot e serves = (kind : Kind) → Decides (serves kind) (Shows t (with_kind slot (Some kind) p) e)
 
--- the strongest that serve and order less than this one
+-- of those that order less than this one the strongest that serve
 abbrev pub weaker_that : (serves : Kind → Bool) → Kind → List Kind
-weaker_that serves kind = strongest (filter (λ other. orders_less other kind && serves other) all_kinds)
+weaker_that serves kind = strongest (filter serves (filter (λ other. orders_less other kind) all_kinds))
 
 -- such as `, or with r,r or w,w there`
 abbrev pub kinds_there : List Kind → List ℕ

@@ -1,6 +1,6 @@
 //! Which weaker fences can stand in the place of one in an execution without it.
 
-ghost use Rattle.std.specs.Prelude.{◌≡◌, ◌&&◌, ◌++◌, codes, filter, length, IfOk, IsOkUnless, IsTrue, string_bytes};
+ghost use Rattle.std.specs.Prelude.{◌≡◌, ◌++◌, codes, filter, length, IfOk, IsOkUnless, IsTrue, string_bytes};
 ghost use Rattle.std.specs.List.{flat_map, list_all, list_any};
 ghost use Rattle.fs_kinds.specs.declared.fault.Fault.TheVariants.{Memory};
 ghost use Rattle.fs_kinds.specs.Kind.{all_kinds, word};
@@ -98,32 +98,43 @@ fn strongest(alloc: Global, kinds: &[Kind]) -> Result<Vec<Kind>, AllocError>
         .collect(alloc)
 }
 
-/// The kinds that order less than that of the fence, and with which in its place the order keeps what fences order.
-fn serving(
+/// The kinds that order less than this one.
+fn below(alloc: Global, kind: Kind) -> Result<Vec<Kind>, AllocError>
+    ensures { IfOk result (λ found. found.items ≡ filter (λ other. orders_less other kind) all_kinds) }
+{
+    Kind::ALL
+        .iter()
+        .copied()
+        .filter(|other| orders_less(*other, kind))
+        .collect(alloc)
+}
+
+/// Those of the kinds with which in the slot the order keeps all that fences order.
+fn kept(
     alloc: Global,
     test: &Test,
     ordered: &OrderedCandidate,
     placement: &Placement,
     slot: Slot,
-    kind: Kind,
+    kinds: &[Kind],
 ) -> Result<Vec<Kind>, Fault>
     requires ordered { IsOrdered test.now ordered.now }
     requires there { IsTrue (has_slot slot placement.now) }
-    ensures ok { IfOk result (λ kinds. kinds.items ≡ filter (λ other. orders_less other kind
-        && keeps_kind (runs_in test.now ordered.now) placement.now slot ordered.now.order.listed other) all_kinds) }
+    ensures ok { IfOk result (λ found. found.items
+        ≡ filter (keeps_kind (runs_in test.now ordered.now) placement.now slot ordered.now.order.listed) kinds.now) }
     ensures err { IsOkUnless result Memory }
 {
-    let mut kinds = Vec::new(alloc);
-    for other in Kind::ALL {
-        if orders_less(other, kind) && keeps_kind(test, ordered, placement, slot, other)? {
-            kinds.push(other)?;
+    let mut found = Vec::new(alloc);
+    for kind in kinds {
+        if keeps_kind(test, ordered, placement, slot, *kind)? {
+            found.push(*kind)?;
         }
     }
-    Ok(kinds)
+    Ok(found)
 }
 
-/// The strongest kinds weaker than that of the fence with which in its place an execution without it still is one. The
-/// cost is that of `fence_rule` for each two operations, nine times at most. The error is F19.
+/// Of the kinds that order less than that of the fence in the slot the strongest with which there an execution without
+/// it still is one. The cost is that of `fence_rule` for each two operations, nine times at most. The error is F19.
 pub(crate) fn weaker_kinds(
     alloc: Global,
     test: &Test,
@@ -138,7 +149,8 @@ pub(crate) fn weaker_kinds(
         ≡ weaker_that (keeps_kind (runs_in test.now ordered.now) placement.now slot ordered.now.order.listed) kind) }
     ensures err { IsOkUnless result Memory }
 {
-    let kinds = serving(alloc, test, ordered, placement, slot, kind)?;
+    let weaker = below(alloc, kind)?;
+    let kinds = kept(alloc, test, ordered, placement, slot, &weaker)?;
     Ok(strongest(alloc, &kinds)?)
 }
 
