@@ -1,3 +1,4 @@
 pub mod Certified
 pub mod Faults
 pub mod Texts
+pub mod Kept

@@ -4,5 +4,6 @@ pub mod Traces
 pub mod Signs
 pub mod Contradictions
 pub mod Forbidden
+pub mod Weaker
 pub mod Why
 pub mod inner

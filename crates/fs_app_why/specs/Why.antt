@@ -41,6 +41,7 @@ use Rattle.fs_app_why_kinds.specs.Words.{instr_named, line_of, text_of_instr}
 use Rattle.fs_app_why_nearer.specs.Reordered.{IsFirstShown, IsToldOf}
 use Rattle.fs_app_why.specs.Forbidden.{AreKinds, cycles_text}
 use Rattle.fs_app_why.specs.Traces.{trace_text}
+use Rattle.fs_app_why.specs.Weaker.{Serve, weaker_that, without_or_with}
 
 -- ---- of a witness to which `order` says yes, the execution that it gives
 
@@ -171,6 +172,7 @@ abbrev pub asked : Telling → Entry → Entry
 asked telling entry =
     record { slot = entry.slot; kind = if is_passed telling entry.slot then None else entry.kind }
 
+-- where no weaker fences are told
 abbrev pub without_heading : List ℕ
 without_heading = codes "Without it, in the order of memory:\n"
 
@@ -179,17 +181,19 @@ abbrev pub NoWitnessShows : Test → List Witness → List Entry → Type 0
 NoWitnessShows t ws p = (w : Witness) → Contains ws w → IsShownBy t p w → ⊥
 
 module _ (t : Test) (lines : List (List ℕ)) (ws : List Witness) (IsUntold : List Entry → Type 0) (p : List Entry) where
-  -- an execution of the first witness that shows the outcome without the fence in this slot; or nothing
-  abbrev pub TellsFirst : Slot → (text : List ℕ) → Type 0
-  TellsFirst slot text =
-      ((w : Witness) × (e : Execution) × IsFirstShown t (with_kind slot None p) ws w × IsToldOf t (with_kind slot None p) w e
-      × (text ≡ without_heading ++ trace_text t lines e))
+  -- an execution of the first witness that shows the outcome without the fence of this kind in this slot, below which
+  -- weaker ones serve there; or nothing
+  abbrev pub TellsFirst : Slot → Kind → (text : List ℕ) → Type 0
+  TellsFirst slot kind text =
+      ((w : Witness) × (e : Execution) × (serves : Kind → Bool) × IsFirstShown t (with_kind slot None p) ws w
+      × IsToldOf t (with_kind slot None p) w e × Serve t p slot e serves
+      × (text ≡ without_or_with (weaker_that serves kind) ++ trace_text t lines e))
       ⊎ (IsUntold (with_kind slot None p) × (text ≡ []))
 
   -- of a slot without a fence nothing
   abbrev pub TellsWithout : Slot → Option Kind → (text : List ℕ) → Type 0
   TellsWithout slot None text = text ≡ []
-  TellsWithout slot (Some kind) text = TellsFirst slot text
+  TellsWithout slot (Some kind) text = TellsFirst slot kind text
 
 module _ (t : Test) (lines : List (List ℕ)) (telling : Telling) (kinds : List ChainKind) (ws : List Witness) (IsUntold : List Entry → Type 0) (p : List Entry) where
   abbrev pub TellsEntry : Entry → (text : List ℕ) → Type 0

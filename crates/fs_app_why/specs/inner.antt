@@ -1,2 +1,3 @@
 -- What only inner functions and proofs need.
 pub mod Told
+pub mod Kept

@@ -173,12 +173,13 @@ fn answer_text(
 
 /// What is told of the answer of a certificate. Of fences why they rule the outcome out: the ends of its refutation as
 /// chains of operations, those that are the same but for the harts together, and nothing of a list of cycles; then of
-/// each fence in which of these it is needed, and an execution without it, of the first witness that has one, or none
-/// where no witness has one. Of these as many are told as `telling` says; where one fence is asked for, and the answer
-/// has none there, a line says so. Of `none` an execution of the test with `rw,rw` in every slot, of which the first
-/// witness has the runs, sources and coherence orders, whatever is asked for. The faults are `BadCertificate`, those of
-/// `read_test`, `BadFence` where a word names no slot of the test, and those of `Basis::new`. The cost is that of
-/// `kinds_by` and `cycles_text`, that of `why_allowed` for each fence and each witness, and linear in the certificate.
+/// each fence in which of these it is needed, and an execution without it, of the first witness that has one, with the
+/// weaker fences that would let it through, or none where no witness has one. Of these as many are told as `telling`
+/// says; where one fence is asked for, and the answer has none there, a line says so. Of `none` an execution of the
+/// test with `rw,rw` in every slot, of which the first witness has the runs, sources and coherence orders, whatever is
+/// asked for. The faults are `BadCertificate`, those of `read_test`, `BadFence` where a word names no slot of the test,
+/// and those of `Basis::new`. The cost is that of `kinds_by` and `cycles_text`, that of `why_allowed` for each fence
+/// and each witness, and linear in the certificate.
 pub fn why_certified(
     alloc: Global,
     telling: Telling,

@@ -15,6 +15,7 @@ mod ruled_out;
 mod signs;
 mod table;
 mod trace;
+mod weaker;
 mod without;
 mod words;
 

@@ -15,9 +15,11 @@ ghost use Rattle.fs_region_ends.specs.declared.fences.Fence.TheVariants.{Placed}
 ghost use Rattle.fs_app_why_kinds.specs.Counted.{in_text};
 ghost use Rattle.fs_app_why_kinds.specs.Told.{fence_key};
 ghost use Rattle.fs_app_why.specs.Why.{NoWitnessShows, TellsFences, TellsFirst, TellsWithout, asked, fence_line};
-ghost use Rattle.fs_app_why.specs.Why.{head_text, instr_at, is_passed, named_text, without_heading};
+ghost use Rattle.fs_app_why.specs.Why.{head_text, instr_at, is_passed, named_text};
+ghost use Rattle.fs_app_why.specs.Weaker.{without_or_with};
 
-use crate::trace::trace_text;
+use crate::order::told_below;
+use crate::weaker::{weaker_kinds, without_or_with};
 use fs_app_why_kinds::{Telling, code_of, fence_key, in_text, instr_text, line_of};
 use fs_app_why_nearer::first_without;
 use fs_cert_evidence::WitnessFile;
@@ -116,41 +118,45 @@ fn head_text(
     }
 }
 
-/// The execution without the fence, below a line that says so.
+/// The execution without the fence, below a line that says so, and with which of these kinds it is one as well.
 fn shown_text(
     alloc: Global,
     test: &Test,
     lines: &[List<usize>],
     ordered: &OrderedCandidate,
+    kinds: &[Kind],
 ) -> Result<String, AllocError>
     requires test { IsTest test.now }
     requires ordered { IsOrdered test.now ordered.now }
     requires last { AreFinal test.now ordered.now.candidate.traces }
     ensures { IfOk result (λ text. string_bytes text
-        ≡ without_heading ++ trace_text test.now lines.now (execution_in ordered.now)) }
+        ≡ without_or_with kinds.now ++ trace_text test.now lines.now (execution_in ordered.now)) }
 {
-    let trace = trace_text(alloc, test, lines, ordered)?;
-    format!(in alloc; "Without it, in the order of memory:\n{}", trace.as_str())
+    let heading = without_or_with(alloc, kinds)?;
+    told_below(alloc, heading.as_str(), test, lines, ordered)
 }
 
-/// What is told of the test without the fence in the slot.
+/// What is told of the test without the fence.
 fn first_text(
     alloc: Global,
     test: &Test,
     lines: &[List<usize>],
     placement: &Placement,
     files: &[WitnessFile],
-    slot: Slot,
+    fence: (Slot, Kind),
 ) -> Result<String, Fault>
     requires test { IsTest test.now }
-    requires there { IsTrue (has_slot slot placement.now) }
+    requires there { IsTrue (has_slot fence.0 placement.now) }
     ensures told { (ws : Items Witness) → AllZip KeepsWitness files.now ws → IfOk result (λ text.
-        TellsFirst test.now lines.now ws (NoWitnessShows test.now ws) placement.now slot (string_bytes text)) }
+        TellsFirst test.now lines.now ws (NoWitnessShows test.now ws) placement.now fence.0 fence.1
+        (string_bytes text)) }
     ensures err { IsOkUnless result Memory }
 {
+    let (slot, kind) = fence;
     match first_without(alloc, test, placement, slot, files)? {
         Some(shown) => {
-            let told = shown_text(alloc, test, lines, &shown)?;
+            let kinds = weaker_kinds(alloc, test, &shown, placement, slot, kind)?;
+            let told = shown_text(alloc, test, lines, &shown, &kinds)?;
             Ok(told)
         }
         None => Ok(String::new(alloc)),
@@ -174,7 +180,7 @@ fn without_text(
     ensures err { IsOkUnless result Memory }
 {
     match entry.kind {
-        Some(_) => first_text(alloc, test, lines, placement, files, entry.slot),
+        Some(kind) => first_text(alloc, test, lines, placement, files, (entry.slot, kind)),
         None => Ok(String::new(alloc)),
     }
 }
@@ -199,8 +205,8 @@ pub fn asked(telling: Telling, entry: Entry) -> Entry
 }
 
 /// What is told of each fence that is asked for, in the order of their slots: which of these kinds of contradictions
-/// it is in, and where one of the witnesses shows the outcome without it, an execution of the first that does. The error
-/// is F19.
+/// it is in, and where one of the witnesses shows the outcome without it, an execution of the first that does, and which
+/// weaker fences would let that through. The error is F19.
 pub(crate) fn fences_text(
     alloc: Global,
     test: &Test,
