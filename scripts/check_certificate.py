@@ -1519,28 +1519,23 @@ class SitesChecker:
         return [bar[name] for name in self.names]
 
     def cheapest(self, bars):
-        """The first of the cheapest placements that break each bar, or None. They come in the order in which they are
-        preferred, so the first of equal cost is the best."""
-        best, least = None, math.inf
-
-        def go(kinds, cost, open_bars):
-            nonlocal best, least
-            if cost + self.still_due(len(kinds), open_bars) >= least:
-                return
-            if len(kinds) == len(self.names):
-                best, least = kinds, cost
-                return
-            for kind, price in self.costs[len(kinds)].items():
-                left = [bar for bar in open_bars if kind is None or PAIRS[kind] <= bar[len(kinds)]]
-                go(kinds + (kind,), cost + price, left)
-
-        go((), 0, bars)
-        return best
-
-    def still_due(self, first, open_bars):
-        """What it costs at least to break each of these bars at the sites from this one on."""
-        return max((min((price for site in range(first, len(self.names)) for kind, price in self.costs[site].items()
-                         if kind and not PAIRS[kind] <= bar[site]), default=math.inf) for bar in open_bars), default=0)
+        """The first of the cheapest placements that break each bar, or None. Of the ways to fill the first sites that
+        leave the same bars unbroken it goes on from the first cheapest alone."""
+        every, best = frozenset(range(len(bars))), {frozenset(range(len(bars))): (0, ())}
+        stays = [{kind: frozenset(bar for bar in every if kind is None or PAIRS[kind] <= bars[bar][site])
+                  for kind in self.costs[site]} for site in range(len(self.names))]
+        for site, costs in enumerate(self.costs):
+            lost = every.intersection(*[left for later in stays[site + 1:] for left in later.values()])
+            wider = {}
+            for (left, (cost, chosen)), (number, (kind, price)) in itertools.product(
+                    best.items(), enumerate(costs.items())):
+                after, found = left & stays[site][kind], (cost + price, (*chosen, number))
+                if not after & lost:
+                    wider[after] = min(found, wider.get(after, found))
+            best = wider
+        if frozenset() not in best:
+            return None
+        return tuple(list(costs)[number] for costs, number in zip(self.costs, best[frozenset()][1]))
 
     def fences(self):
         """The sites that have a fence in the answer, each with its kind."""
