@@ -221,7 +221,7 @@ class Audited:
         usual = {name: self.best[name] if self.best and self.chance.random() < 0.8 else self.chance.choice(some)
                  for name in question.names}
         most = self.chance.choice([0, 0, 0.2])                  # of the copies have another one
-        self.kinds = {name: collections.defaultdict(list) for name in question.names}       # and where each stands
+        self.kinds = {name: collections.defaultdict(dict) for name in question.names}       # and where each stands
         for (test, own), file in zip(bare, self.asked.files):
             kinds = {it: usual[name] if self.chance.random() >= most else self.chance.choice(some)
                      for it, name in test.places.items()}
@@ -231,7 +231,7 @@ class Audited:
             for (hart, at), name in test.places.items():
                 row = at + sum(place[0] == hart and place[1] < at for place in fences)
                 kind = Cell(fences.get((hart, at), "")).kind
-                self.kinds[name][kind].append(f"{file}:{len(test.above) + 1 + row}")
+                self.kinds[name][kind][f"{file}:{len(test.above) + 1 + row}"] = None
 
     def cost(self, name, kind):
         """What a FENCE costs; one without a price what the cheapest kind does that orders all that it orders."""
