@@ -2,7 +2,7 @@
 """Checks a certificate of an answer, in plain Python.
 
     scripts/check_certificate.py TEST PRICES CERTIFICATE
-    scripts/check_certificate.py --sites FILE.. PRICES CERTIFICATE
+    scripts/check_certificate.py --sites [--free] FILE.. PRICES CERTIFICATE
 
 It is written from docs/CERTIFICATE.md, docs/REFUTATIONS.md, docs/FORMAT.md and docs/MODEL.md alone, and shares no code
 with the program. The sections below name the part of these documents that they follow.
@@ -592,19 +592,21 @@ class Prices:
         self.price, self.weight = price, weight
         self.offered = [kind for kind in KINDS if kind in price]
 
-    def at(self, slot, kind):
-        """What this kind costs at this slot."""
-        return self.price[kind] * self.weight.get('P%d:%d' % slot, 1)
+    def at(self, place, kind):
+        """What this kind costs at this slot, or at the site of this name."""
+        name = place if type(place) is str else 'P%d:%d' % place
+        return self.price[kind] * self.weight.get(name, 1)
 
     def cost(self, slots, placement):
         return sum(self.at(slot, kind) for slot, kind in zip(slots, placement) if kind is not None)
 
 
-def prices_of(data):
-    """The price list that these bytes are. Raises its fault, where it has one."""
+def prices_of(data, of_sites=False):
+    """The price list that these bytes are, with weights of slots, or of sites. Raises its fault, where it has one."""
     value = json_of(data)
     weight = value.pop('weights', {}) if type(value) is dict else None
-    if not (type(weight) is dict and all(is_byte_name(slot) and is_whole(it, 1001) for slot, it in weight.items())
+    if not (type(weight) is dict and all(is_whole(it, 1001) for it in weight.values())
+            and (of_sites or all(map(is_byte_name, weight)))
             and all(kind in KINDS and is_whole(price, 1000001) and price > 0 for kind, price in value.items())):
         raise Fault('fault F10 BadPrices')
     if 'rw,rw' not in value:
@@ -1433,8 +1435,9 @@ def site_name(label):
     return label.rstrip('0123456789_') or label
 
 
-def places_of(test):
-    """The copies of sites in this test: the slot of each, hart and instruction, and the name of its site."""
+def places_of(test, prefix=None):
+    """The copies of sites in this test: the slot of each, hart and instruction, and the name of its site. With a prefix
+    each slot at which no label names a site is one of its own, whose name it begins."""
     found = []
     for hart, cells in enumerate(test.columns):
         ends, position = {words[-1] for words, _ in cells if words}, 0
@@ -1447,27 +1450,26 @@ def places_of(test):
                     found.append(((hart, position), site_name(words[at])))
                 at += 2
             position += at < len(words)
-    return found
+    own = test.slots() if prefix is not None else []
+    return sorted({**{slot: '%sP%d:%d' % (prefix, *slot) for slot in own}, **dict(found)}.items())
 
 
 def site_prices_of(data):
-    """The price list that these bytes are, which gives no weights."""
-    prices = prices_of(data)
-    if 'weights' in json_of(data):
-        raise Fault('fault F10 BadPrices')
-    return prices
+    """The price list that these bytes are, with weights by names of sites."""
+    return prices_of(data, of_sites=True)
 
 
 class SitesChecker:
-    """Tests, each with its path, a price list and a certificate file. The checks raise Refused with a reason. A
-    placement is a tuple with a kind or None for each site."""
+    """Tests, each with its path, a price list and a certificate file; may slots be sites of their own? The checks raise
+    Refused with a reason. A placement is a tuple with a kind or None for each site."""
 
-    def __init__(self, tests, prices, certificate):
+    def __init__(self, tests, prices, certificate, is_free=False):
         self.paths, self.tests = [path for path, _ in tests], [test for _, test in tests]
-        self.price, self.certificate = prices.price, certificate
-        self.options = [None] + prices.offered
-        self.places = [places_of(test) for test in self.tests]
+        self.certificate, self.is_alone = certificate, is_free and len(tests) == 1
+        prefixes = [f'{path}:' if len(tests) > 1 else '' for path in self.paths]
+        self.places = [places_of(test, prefix if is_free else None) for test, prefix in zip(self.tests, prefixes)]
         self.names = list(dict.fromkeys(name for places in self.places for _, name in places))
+        self.costs = [{None: 0, **{kind: prices.at(name, kind) for kind in prices.offered}} for name in self.names]
         self.answer = None
 
     def check(self):
@@ -1517,28 +1519,23 @@ class SitesChecker:
         return [bar[name] for name in self.names]
 
     def cheapest(self, bars):
-        """The first of the cheapest placements that break each bar, or None. They come in the order in which they are
-        preferred, so the first of equal cost is the best."""
-        best, least = None, math.inf
-
-        def go(kinds, cost, open_bars):
-            nonlocal best, least
-            if cost + self.still_due(len(kinds), open_bars) >= least:
-                return
-            if len(kinds) == len(self.names):
-                best, least = kinds, cost
-                return
-            for kind in self.options:
-                left = [bar for bar in open_bars if kind is None or PAIRS[kind] <= bar[len(kinds)]]
-                go(kinds + (kind,), cost + (self.price[kind] if kind else 0), left)
-
-        go((), 0, bars)
-        return best
-
-    def still_due(self, first, open_bars):
-        """What it costs at least to break each of these bars at the sites from this one on."""
-        return max((min((price for site in range(first, len(self.names)) for kind, price in self.price.items()
-                         if not PAIRS[kind] <= bar[site]), default=math.inf) for bar in open_bars), default=0)
+        """The first of the cheapest placements that break each bar, or None. Of the ways to fill the first sites that
+        leave the same bars unbroken it goes on from the first cheapest alone."""
+        every, best = frozenset(range(len(bars))), {frozenset(range(len(bars))): (0, ())}
+        stays = [{kind: frozenset(bar for bar in every if kind is None or PAIRS[kind] <= bars[bar][site])
+                  for kind in self.costs[site]} for site in range(len(self.names))]
+        for site, costs in enumerate(self.costs):
+            lost = every.intersection(*[left for later in stays[site + 1:] for left in later.values()])
+            wider = {}
+            for (left, (cost, chosen)), (number, (kind, price)) in itertools.product(
+                    best.items(), enumerate(costs.items())):
+                after, found = left & stays[site][kind], (cost + price, (*chosen, number))
+                if not after & lost:
+                    wider[after] = min(found, wider.get(after, found))
+            best = wider
+        if frozenset() not in best:
+            return None
+        return tuple(list(costs)[number] for costs, number in zip(self.costs, best[frozenset()][1]))
 
     def fences(self):
         """The sites that have a fence in the answer, each with its kind."""
@@ -1546,7 +1543,7 @@ class SitesChecker:
 
     def claim(self):
         """The answer as a certificate says it."""
-        cost = sum(self.price[kind] for _, kind in self.fences())
+        cost = sum(costs[kind] for costs, kind in zip(self.costs, self.answer))
         return {'cost': cost, 'fences': ['%s=%s' % fence for fence in self.fences()]}
 
     def lines(self):
@@ -1554,8 +1551,12 @@ class SitesChecker:
         if self.answer is None:
             witness = self.certificate['witnesses'][0]
             said = json.dumps({key: witness[key] for key in ('choices', 'order')}, separators=(',', ':'))
-            return ['none', self.paths[witness['test']], said]
-        return ['fenced %d' % self.claim()['cost']] + ['site %s %s' % fence for fence in self.fences()]
+            return ['none'] + [self.paths[witness['test']]] * (not self.is_alone) + [said]
+        return ['fenced %d' % self.claim()['cost']] + [self.line(*fence) for fence in self.fences()]
+
+    def line(self, name, kind):
+        """The line of a site, which of one test alone may be a slot's."""
+        return 'fence %s %s %s' % (*name.split(':'), kind) if self.is_alone and ':' in name else f'site {name} {kind}'
 
 
 def read(path, reader):
@@ -1567,23 +1568,25 @@ def read(path, reader):
         raise Unreadable('%s can not be read: %s' % (path, error))
 
 
-def checker_of(arguments):
-    """The checker of these files."""
-    *tests, prices, certificate = arguments
-    if tests[0] != '--sites':
+def checker_of(words, is_sites, is_free):
+    """The checker of the files that these words name."""
+    *tests, prices, certificate = words
+    if not is_sites:
         test = read(tests[0], test_of)
         return Checker(test, read(prices, prices_of), read(certificate, certificate_of))
-    found = [(path, read(path, test_of)) for path in tests[1:]]
-    return SitesChecker(found, read(prices, site_prices_of), read(certificate, sites_certificate_of))
+    found = [(path, read(path, test_of)) for path in tests]
+    return SitesChecker(found, read(prices, site_prices_of), read(certificate, sites_certificate_of), is_free)
 
 
 def main(arguments):
-    if len(arguments) != 3 and (len(arguments) < 4 or arguments[0] != '--sites'):
+    words = [word for word in arguments if word not in ('--sites', '--free')]
+    is_sites, is_free = '--sites' in arguments, '--free' in arguments
+    if len(words) < 3 or not is_sites and (is_free or len(words) > 3):
         print('usage: check_certificate.py TEST PRICES CERTIFICATE\n'
-              '       check_certificate.py --sites FILE.. PRICES CERTIFICATE', file=sys.stderr)
+              '       check_certificate.py --sites [--free] FILE.. PRICES CERTIFICATE', file=sys.stderr)
         return 2
     try:
-        checker = checker_of(arguments)
+        checker = checker_of(words, is_sites, is_free)
         checker.check()
         print('\n'.join(['yes'] + checker.lines()))
         return 0

@@ -38,14 +38,14 @@ class Judge:
 
 
 class SitesJudge(Judge):
-    """The same for a question over the sites of several files."""
+    """The same for a question over the sites of several files, where slots may be sites of their own."""
 
-    def __init__(self, files, prices):
+    def __init__(self, files, prices, is_free=False):
         self.tests = [(file, model.read(file, model.test_of)) for file in files]
-        self.prices = model.read(prices, model.site_prices_of)
+        self.prices, self.is_free = model.read(prices, model.site_prices_of), is_free
 
     def checker(self, data):
-        return model.SitesChecker(self.tests, self.prices, model.sites_certificate_of(data))
+        return model.SitesChecker(self.tests, self.prices, model.sites_certificate_of(data), self.is_free)
 
 
 def fault_of(data, reader=model.test_of):

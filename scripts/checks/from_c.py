@@ -39,6 +39,11 @@ def made_of(name, *words):
     return ran([f"{TOP}/scripts/from-c", f"{FOLDER}/{name}", *words]).out
 
 
+def forbidden():
+    """The examples whose outcome is forbidden."""
+    return [name for name in sorted(os.listdir(FOLDER)) if wanted_of(text_of(f"{FOLDER}/{name}")) == "forbidden"]
+
+
 def check_sites(run, names, lock):
     """The cheapest fences of all primitives, by the examples whose outcome is forbidden: with these FENCEs each is."""
     files = [written(run.path(f"bare-{lock}-{name}"), made_of(name, "--lock", lock, "--bare")) for name in names]
@@ -89,10 +94,8 @@ def check_changed(run, number):
 
 
 def check(run):
-    names = sorted(os.listdir(FOLDER))
-    side_by_side(lambda name: check_verdict(run, name), names)
-    forbidden = [name for name in names if wanted_of(text_of(f"{FOLDER}/{name}")) == "forbidden"]
-    side_by_side(lambda lock: check_sites(run, forbidden, lock), ["swap", "lrsc", "ticket"])
+    side_by_side(lambda name: check_verdict(run, name), sorted(os.listdir(FOLDER)))
+    side_by_side(lambda lock: check_sites(run, forbidden(), lock), ["swap", "lrsc", "ticket"])
     check_printed(run)
     files = [(f"{HEAD}{code}}}\nexists (true)", wanted) for code, wanted in pairs("refused")]
     for data, wanted in [*files, *pairs("refused files"), (b"\xff", "'utf-8'")]:
