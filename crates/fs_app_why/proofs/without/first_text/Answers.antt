@@ -28,7 +28,8 @@ returns-in_ok-told-in-Some-clause-told c = λ ws kept.
       told.2,
       (λ kind. kept_where_shown t e p (with_kind slot (Some kind) q) told.2.shows),
       c.in_ok-told-in-Some.ensures
-          ∙ ap (λ kinds. without_or_with kinds ++ trace_text t c.args.lines.now e) c.in_ok-kinds-in-Some.ensures.ok,
+          ∙ ap (λ kinds. without_or_with kinds ++ trace_text t c.args.lines.now e)
+          (c.deref.ensures.value ∙ c.in_ok-kinds-in-Some.ensures.ok),
     )
 
 pub returns-in-None-clause-told : goal.returns-in-None-clause-told
