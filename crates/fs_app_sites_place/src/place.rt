@@ -10,6 +10,7 @@ ghost use Rattle.fs_kinds.specs.declared.fault.Limit.TheVariants.{Instructions};
 ghost use Rattle.fs_litmus.specs.Fence.{IsShort};
 ghost use Rattle.fs_model.specs.Printed.{printed};
 ghost use Rattle.fs_model.specs.Test.{IsTest};
+ghost use Rattle.fs_board_offers.specs.Offers.{are_offered as all_offered};
 ghost use Rattle.fs_sites.specs.Questions.{slots_at};
 ghost use Rattle.fs_app_sites.specs.Sites.{most_sites};
 ghost use Rattle.fs_app_sites_place.specs.Place.{AreGivenPrices, IsFirstSitesPlaceFault, IsGivenPricesFault};
@@ -22,7 +23,7 @@ use crate::words::read_kinds;
 use fs_app_io::{Output, Status};
 use fs_app_sites::{SitePrices, offers_of, read_site_prices};
 use fs_board_offers::Offers;
-use fs_kinds::{Fault, Placement};
+use fs_kinds::{Entry, Fault, Placement};
 use fs_litmus::Test;
 use fs_sites::{Place, image};
 use std::alloc::Global;
@@ -140,12 +141,21 @@ fn are_offered(offers: Option<&Offers>, kinds: &Placement) -> bool
     ensures { result ≡ are_offered (option_copied offers.entry) kinds.now }
 {
     match offers {
-        Some(offers) => kinds
-            .as_slice()
-            .iter()
-            .all(|entry| offers.is_offered(entry.slot, entry.kind)),
+        Some(offers) => all_offered(offers, kinds.as_slice()),
         None => true,
     }
+}
+
+/// Do these offers have each entry's kind at its slot?
+fn all_offered(offers: &Offers, entries: &[Entry]) -> bool
+    ensures { result ≡ all_offered offers.now entries.now }
+{
+    for entry in entries {
+        if !offers.is_offered(entry.slot, entry.kind) {
+            return false;
+        }
+    }
+    true
 }
 
 /// The test with the fence of each site at all its copies in print, and where prices are given, the line with the cost.
