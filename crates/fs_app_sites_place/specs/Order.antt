@@ -15,7 +15,8 @@ use Rattle.fs_app_place_order.specs.Order.{verdict_line, verdict_status}
 use Rattle.fs_app_sites_place.specs.Sited.{AreBadWords, AreFences, AreSites, IsSitedFault}
 
 -- the verdict on the witness in the test with the fence of each site at all its copies is printed
-pub record IsSitesOrderAnswer (is_free : Bool) (test witness : List ℕ) (words : List (List ℕ)) (text : List ℕ) (status : Status) : Type 0 where
+pub record IsSitesOrderAnswer (is_free : Bool) (test witness : List ℕ) (words : List (List ℕ)) (text : List ℕ)
+    (status : Status) : Type 0 where
   pub the_test : Test
   pub places : List Place
   pub kinds : List Entry
@@ -33,5 +34,6 @@ pub data IsFirstSitesOrderFault (is_free : Bool) (test witness : List ℕ) (word
   of_words : (t : Test) (places : List Place) (names : List (List ℕ)) → AreSites is_free test t places names
       → AreBadWords names words → IsFirstSitesOrderFault is_free test witness words BadFence
   of_witness : (t : Test) (places : List Place) (kinds : List Entry) → AreFences is_free test words t places kinds
-      → ((w : Witness) → IsWitnessFile (length t.codes) witness w → ⊥) → IsFirstSitesOrderFault is_free test witness words BadWitness
+      → ((w : Witness) → IsWitnessFile (length t.codes) witness w → ⊥)
+      → IsFirstSitesOrderFault is_free test witness words BadWitness
   of_memory : IsFirstSitesOrderFault is_free test witness words Memory

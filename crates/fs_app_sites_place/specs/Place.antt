@@ -49,7 +49,8 @@ cost_line (Some given) kinds = codes "(* cost " ++ decimal (cost given kinds) ++
 -- ---- what is printed
 
 -- the bytes read as a test with copies of sites of these names, and this is what the prices offer at the sites
-pub record IsPlaceAsked (is_free : Bool) (test : List ℕ) (prices : Option (List ℕ)) (t : Test) (places : List Place) (names : List (List ℕ)) (offers : Option Offers) : Type 0 where
+pub record IsPlaceAsked (is_free : Bool) (test : List ℕ) (prices : Option (List ℕ)) (t : Test) (places : List Place)
+    (names : List (List ℕ)) (offers : Option Offers) : Type 0 where
   pub given : Option Data
   pub priced : AreGivenPrices prices given
   pub sites : AreSites is_free test t places names
@@ -60,7 +61,8 @@ abbrev pub fenced_at : Test → List Place → List Entry → Test
 fenced_at t places kinds = fenced t (image places kinds)
 
 -- the words put these fences at sites, each of a kind that is offered there; and the text is that test in print
-pub record IsSitesText (is_free : Bool) (test : List ℕ) (prices : Option (List ℕ)) (words : List (List ℕ)) (text : List ℕ) : Type 0 where
+pub record IsSitesText (is_free : Bool) (test : List ℕ) (prices : Option (List ℕ)) (words : List (List ℕ))
+    (text : List ℕ) : Type 0 where
   pub the_test : Test
   pub places : List Place
   pub names : List (List ℕ)
@@ -71,9 +73,10 @@ pub record IsSitesText (is_free : Bool) (test : List ℕ) (prices : Option (List
   pub fits : are_offered offers kinds ≡ true
   pub shown : text ≡ printed (fenced_at the_test places kinds) ++ cost_line offers kinds
 
--- the first fault: of the prices, else of the file, else of the words, of which one may name a kind that isn't offered at
--- its site, else that a hart has too many instructions with its fences; want of memory may come in place of any answer
-pub data IsFirstSitesPlaceFault (is_free : Bool) (test : List ℕ) (prices : Option (List ℕ)) (words : List (List ℕ)) : Fault → Type 0 where
+-- the first fault: of the prices, else of the file, else of the words, or that one's kind isn't offered at its site, else
+-- that a hart has too many instructions with its fences; want of memory may come in place of any answer
+pub data IsFirstSitesPlaceFault (is_free : Bool) (test : List ℕ) (prices : Option (List ℕ)) (words : List (List ℕ))
+    : Fault → Type 0 where
   of_prices : {fault : Fault} → IsGivenPricesFault prices fault → IsFirstSitesPlaceFault is_free test prices words fault
   of_file : {fault : Fault} (given : Option Data) → AreGivenPrices prices given → IsSitedFault is_free test fault
       → IsFirstSitesPlaceFault is_free test prices words fault

@@ -1,5 +1,6 @@
 -- The sites of one file, and the fences that words such as `lock=r,r` put at them.
-use Rattle.std.specs.Prelude.{◌≡◌, ◌≢◌, ◌⊎◌, ◌<◌, ◌+◌, ◌*◌, ℕ, Bool, List, [], ◌++◌, map, length, slice_index_or, Any, Option, Some, None, codes}
+use Rattle.std.specs.Prelude.{◌≡◌, ◌≢◌, ◌⊎◌, ◌<◌, ◌+◌, ◌*◌, ℕ, Bool, List, [], ◌++◌, map, length, slice_index_or}
+use Rattle.std.specs.Prelude.{Any, Option, Some, None, codes}
 use Rattle.std.specs.List.{range_with_len}
 use Rattle.fs_kinds.specs.declared.fault.Fault.{Fault}
 use Rattle.fs_kinds.specs.declared.fault.Fault.TheVariants.{NodeLimit}
@@ -24,7 +25,8 @@ HaveSites is_free = HaveAllCopies is_free []
 
 -- the bytes read as the test with copies of sites: these are their places, and the names of the sites in the order in
 -- which they first stand
-pub record AreSites (is_free : Bool) (bytes : List ℕ) (t : Test) (places : List Place) (names : List (List ℕ)) : Type 0 where
+pub record AreSites (is_free : Bool) (bytes : List ℕ) (t : Test) (places : List Place) (names : List (List ℕ))
+    : Type 0 where
   pub copies : List Copy
   pub reads : Reads bytes t
   pub have : HaveSites is_free bytes t copies
@@ -42,7 +44,8 @@ IsSitesFault is_free bytes t fault = IsLabelsFault bytes fault ⊎ ((fault ≡ N
 
 -- of a file: of its test, or else of its sites
 abbrev pub IsSitedFault : (is_free : Bool) → List ℕ → Fault → Type 0
-IsSitedFault is_free bytes fault = IsTestFault bytes fault ⊎ ((t : Test) × Reads bytes t × IsSitesFault is_free bytes t fault)
+IsSitedFault is_free bytes fault =
+    IsTestFault bytes fault ⊎ ((t : Test) × Reads bytes t × IsSitesFault is_free bytes t fault)
 
 -- ---- words
 
@@ -77,7 +80,8 @@ abbrev pub AreBadWords : List (List ℕ) → List (List ℕ) → Type 0
 AreBadWords names words = Any (IsNoFence names) words ⊎ ArePut names words None
 
 -- the bytes read as a test with copies of sites, to which the words give these fences
-pub record AreFences (is_free : Bool) (test : List ℕ) (words : List (List ℕ)) (t : Test) (places : List Place) (kinds : List Entry) : Type 0 where
+pub record AreFences (is_free : Bool) (test : List ℕ) (words : List (List ℕ)) (t : Test) (places : List Place)
+    (kinds : List Entry) : Type 0 where
   pub names : List (List ℕ)
   pub sites : AreSites is_free test t places names
   pub put : ArePut names words (Some kinds)

@@ -20,9 +20,10 @@ use std::alloc::Global;
 
 /// What `order --sites` prints for a test file, a witness and words of sites: `yes` where the witness gives an
 /// execution, under RVWMO, of the test with the fences that the words name at all copies of each site, and one that
-/// shows the outcome of its condition; else `no: ` and the first reason against it. With `is_free` each slot at which no
-/// label names a site is a site of its own, such as `P0:3`. The files are bytes as they were read. The cost is that of
-/// `check_order` of fs_check, and each copy's name and each word is held against the names of all sites.
+/// shows the outcome of its condition; else `no: ` and the first reason against it. With `is_free` each slot at which
+/// no label names a site is a site of its own, such as `P0:3`. The files are bytes as they were read. The cost is that
+/// of `check_order` of fs_check; each slot is held against all copies, and each copy's name and each word against the
+/// names of all sites.
 ///
 /// The first fault in this order: those of a test file by number and then line; `BadLabel` of a second site label at a
 /// place; `NodeLimit` where there are more than 65,536 sites; `BadFence`; `BadWitness`. `Memory` may come in place of

@@ -1,14 +1,16 @@
 //! What `place --sites` answers.
 
 ghost use Rattle.std.specs.Prelude.{◌≡◌, ◌≢◌, ◌++◌, ◌≤◌, Bool, ℕ, List, Option, IfOk, IfErr, IsOkUnless, length};
-ghost use Rattle.std.specs.Prelude.{map, string_bytes, true};
+ghost use Rattle.std.specs.Prelude.{map, option_map, string_bytes, true};
 ghost use Rattle.std.specs.Option.{option_copied};
+ghost use Rattle.serde_json.specs.View.{view};
 ghost use Rattle.fs_kinds.specs.Slot.{is_rising};
 ghost use Rattle.fs_kinds.specs.declared.fault.Fault.TheVariants.{Memory, TooBig};
 ghost use Rattle.fs_kinds.specs.declared.fault.Limit.TheVariants.{Instructions};
 ghost use Rattle.fs_litmus.specs.Fence.{IsShort};
 ghost use Rattle.fs_model.specs.Printed.{printed};
 ghost use Rattle.fs_model.specs.Test.{IsTest};
+ghost use Rattle.fs_board_offers.specs.Offers.{are_offered as all_offered};
 ghost use Rattle.fs_sites.specs.Questions.{slots_at};
 ghost use Rattle.fs_app_sites.specs.Sites.{most_sites};
 ghost use Rattle.fs_app_sites_place.specs.Place.{AreGivenPrices, IsFirstSitesPlaceFault, IsGivenPricesFault};
@@ -21,7 +23,7 @@ use crate::words::read_kinds;
 use fs_app_io::{Output, Status};
 use fs_app_sites::{SitePrices, offers_of, read_site_prices};
 use fs_board_offers::Offers;
-use fs_kinds::{Fault, Placement};
+use fs_kinds::{Entry, Fault, Placement};
 use fs_litmus::Test;
 use fs_sites::{Place, image};
 use std::alloc::Global;
@@ -30,11 +32,11 @@ use std::alloc::Global;
 /// the words name at all copies of each site, and where prices are given, their cost on a last line. Each site costs
 /// the price of its kind times its weight, once. With `is_free` each slot at which no label names a site is a site of
 /// its own, such as `P0:3`. A copy behind which no instruction of its hart stands gets no FENCE. The files are bytes as
-/// they were read. Linear in the bytes; each instruction is looked for in all copies, each copy's name and each word in
-/// those of all sites, and each fence of a site in all offers.
+/// they were read. Linear in the bytes; each instruction and each slot is looked for in all copies, each copy's name and
+/// each word in the names of all sites, and each fence of a site in all offers.
 ///
-/// The first fault in this order: `BadPrices` and `NoTop`; those of a test file by number and then line; `BadLabel` of a
-/// second site label at a place; `NodeLimit` where there are more than 65,536 sites; `BadFence`; `TooBig` where a hart
+/// The first fault in this order: `BadPrices` and `NoTop`; those of a test file by number and then line; `BadLabel` of
+/// a second site label at a place; `NodeLimit` where there are more than 65,536 sites; `BadFence`; `TooBig` where a hart
 /// has too many instructions with its fences. `Memory` may come in place of any answer.
 pub fn run_place_sites(
     alloc: Global,
@@ -55,7 +57,7 @@ pub fn run_place_sites(
 
 /// The prices that the file holds, where one is given.
 fn given_prices(alloc: Global, bytes: Option<&[u8]>) -> Result<Option<SitePrices>, Fault>
-    ensures ok { IfOk result (AreGivenPrices (option_copied bytes.entry)) }
+    ensures ok { IfOk result (λ prices. AreGivenPrices (option_copied bytes.entry) (option_map view prices)) }
     ensures err { IfErr result (λ f. f ≢ Memory → IsGivenPricesFault (option_copied bytes.entry) f) }
 {
     match bytes {
@@ -72,10 +74,12 @@ fn place_priced(
     words: &[String],
     is_free: bool,
 ) -> Result<Output, Fault>
-    ensures text { IfOk result (λ output. (given : Option (List ℕ)) → AreGivenPrices given (option_copied prices.entry)
+    ensures text { IfOk result (λ output. (given : Option (List ℕ))
+        → AreGivenPrices given (option_map view (option_copied prices.entry))
         → IsSitesText is_free test.now given (map string_bytes words.now) (string_bytes output.text)) }
     ensures status { IfOk result (λ output. output.status ≡ Status.Success) }
-    ensures fault { IfErr result (λ f. (given : Option (List ℕ)) → AreGivenPrices given (option_copied prices.entry)
+    ensures fault { IfErr result (λ f. (given : Option (List ℕ))
+        → AreGivenPrices given (option_map view (option_copied prices.entry))
         → IsFirstSitesPlaceFault is_free test.now given (map string_bytes words.now) f) }
 {
     let (test, sites) = read_sited(alloc, test, is_free)?;
@@ -91,7 +95,7 @@ fn offers_given(
 ) -> Result<Option<Offers>, Fault>
     requires { length names.now ≤ most_sites }
     ensures ok { IfOk result (λ offers. offers
-        ≡ offers_given (option_copied prices.entry) (map string_bytes names.now)) }
+        ≡ offers_given (option_map view (option_copied prices.entry)) (map string_bytes names.now)) }
     ensures err { IsOkUnless result Memory }
 {
     match prices {
@@ -137,12 +141,21 @@ fn are_offered(offers: Option<&Offers>, kinds: &Placement) -> bool
     ensures { result ≡ are_offered (option_copied offers.entry) kinds.now }
 {
     match offers {
-        Some(offers) => kinds
-            .as_slice()
-            .iter()
-            .all(|entry| offers.is_offered(entry.slot, entry.kind)),
+        Some(offers) => all_offered(offers, kinds.as_slice()),
         None => true,
     }
+}
+
+/// Do these offers have each entry's kind at its slot?
+fn all_offered(offers: &Offers, entries: &[Entry]) -> bool
+    ensures { result ≡ all_offered offers.now entries.now }
+{
+    for entry in entries {
+        if !offers.is_offered(entry.slot, entry.kind) {
+            return false;
+        }
+    }
+    true
 }
 
 /// The test with the fence of each site at all its copies in print, and where prices are given, the line with the cost.

@@ -61,7 +61,7 @@ fn read_sites(alloc: Global, bytes: &[u8], test: &Test, is_free: bool) -> Result
     ensures few { IfOk result (λ sites. length sites.names ≤ most_sites) }
     ensures err { IfErr result (λ f. f ≢ Memory → IsSitesFault is_free bytes.now test.now f) }
 {
-    let copies = read_all_copies(alloc, bytes, test, "", is_free)?;
+    let copies = read_all_copies(alloc, bytes, test, is_free)?;
     sites_of(alloc, &copies)
 }
 

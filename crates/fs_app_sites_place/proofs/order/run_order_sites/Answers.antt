@@ -4,4 +4,4 @@ use Rattle.fs_app_sites_place.proofs.order.run_order_sites.Goals as goal
 
 pub returns-in_err-test-clause-fault : goal.returns-in_err-test-clause-fault
 returns-in_err-test-clause-fault c =
-    IfErr-handed c.from_residual.result _ _ c.from_residual.ensures.1 (order-file _ _ _ _ c.in_err-test.ensures.err)
+    IfErr-handed c.from_residual.result _ _ c.from_residual.ensures.1 (order-file _ _ _ _ _ c.in_err-test.ensures.err)
