@@ -134,13 +134,7 @@ fn status_of_run<
             if request.task.is_json() {
                 print_fault(rt, fault, &papers)?;
             }
-            Err(failure_of_task(
-                rt.alloc(),
-                &request.task,
-                fault,
-                voice,
-                &papers,
-            ))
+            Err(failure_of_task(rt.alloc(), &request.task, fault, voice, &papers))
         }
     }
 }

@@ -19,9 +19,9 @@ use fs_app_sites::{
     read_all_copies, run_sites,
 };
 use fs_app_sites_check::{run_sites_certified, run_sites_check};
-use fs_litmus::read_test;
 use fs_app_test::{Note, test_file, test_objects};
 use fs_kinds::{Fault, List};
+use fs_litmus::read_test;
 use std::alloc::{AllocError, Global};
 use std::rt::Files;
 use std::thread::Threads;
@@ -36,7 +36,8 @@ const NO_SITE: &str = "note: no file has a label that names a site\n";
 const TWO_SITES: &str = "two labels before one instruction name sites: write `nop` between them";
 
 /// What is said of words that give sites no fences; the names of the sites follow.
-const SITE_WORDS: &str = "each word is a site, `=` and a kind that has a price, and each site stands once; sites here:";
+const SITE_WORDS: &str =
+    "each word is a site, `=` and a kind that has a price, and each site stands once; sites here:";
 
 /// What `solve --sites` answers of its files. The first file that has a fault ends the run: the fault is said here,
 /// with the name of the file, and nothing but its object is printed.
