@@ -1,3 +1,4 @@
+pub mod Files
 pub mod Copies
 pub mod Marks
 pub mod Lines

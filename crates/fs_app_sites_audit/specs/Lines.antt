@@ -64,14 +64,14 @@ told site own (Some advice) (row ∷ rows) = record { site = site; fence = own; 
 abbrev pub fence_line : List Mark → (site : ℕ) → (wanted own : Option Fence) → List Line
 fence_line marks site wanted own = told site own (advice_for wanted own) (rows_of marks site own)
 
--- of the site: of copies without a fence first, then by kind
-abbrev pub site_lines : List Mark → (wanted : ℕ → Option Fence) → (site : ℕ) → List Line
-site_lines marks wanted site =
-    fence_line marks site (wanted site) None ++ flat_map (λ kind. fence_line marks site (wanted site) (Some kind)) all_kinds
+-- of a site that is to have this fence: of copies without a fence first, then by kind
+abbrev pub site_lines : List Mark → (site : ℕ) → (wanted : Option Fence) → List Line
+site_lines marks site wanted =
+    fence_line marks site wanted None ++ flat_map (λ kind. fence_line marks site wanted (Some kind)) all_kinds
 
 -- of so many sites
 abbrev pub lines_of : (sites : ℕ) → List Mark → (wanted : ℕ → Option Fence) → List Line
-lines_of sites marks wanted = flat_map (site_lines marks wanted) (range_with_len 0 sites)
+lines_of sites marks wanted = flat_map (λ site. site_lines marks site (wanted site)) (range_with_len 0 sites)
 
 -- there is nothing to change
 abbrev pub are_content : List Line → Bool
