@@ -2,6 +2,7 @@ pub mod Alike
 pub mod Emptied
 pub mod Faults
 pub mod Reading
-pub mod Combined
 pub mod Marked
+pub mod Pushed
+pub mod Rows
 pub mod Whole

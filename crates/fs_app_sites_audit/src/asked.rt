@@ -33,8 +33,8 @@ fn names_in(alloc: Global, held: &[Held]) -> Result<Vec<String>, AllocError>
     ensures { IfOk result (λ names. map string_bytes names.items ≡ names_in held.now) }
 {
     let mut names = Vec::new(alloc);
-    for held in held {
-        add_copies(alloc, &mut names, &held.copies)?;
+    for here in held {
+        add_copies(alloc, &mut names, &here.copies)?;
     }
     Ok(names)
 }
@@ -55,8 +55,8 @@ fn parts_of(alloc: Global, names: &[String], held: &[Held]) -> Result<Vec<Part>,
         ≡ map (part_of (map string_bytes names.now)) (map (λ h. h.asked) held.now)) }
 {
     let mut parts = Vec::new(alloc);
-    for held in held {
-        parts.push(part_of(alloc, names, held)?)?;
+    for here in held {
+        parts.push(part_of(alloc, names, here)?)?;
     }
     Ok(parts)
 }
