@@ -1,6 +1,7 @@
-use Rattle.std.proofs.Common.{subst, sym, ◌∙◌}
+use Rattle.std.proofs.Common.{ap, subst, sym, ◌∙◌}
 use Rattle.fs_app_place_order.proofs.Faults.{IfErr-handed}
 use Rattle.fs_sites.specs.Answers.{IsAnswer}
+use Rattle.fs_app_sites_audit.specs.Audited.{AreFound, together}
 use Rattle.fs_app_sites_audit.proofs.Faults.{not_said, not_searched, too_many}
 use Rattle.fs_app_sites_audit.proofs.audit.find.Goals as goal
 
@@ -20,4 +21,14 @@ returns-in_err-kinds-clause-err c =
     (λ n. not_said _ _ _ _ _ _ c.in_ok-asked.ensures.value c.in_ok-found.ensures.ok (c.in_err-kinds.ensures.err n))
 
 pub returns-clause-ok : goal.returns-clause-ok
-returns-clause-ok c = ?
+returns-clause-ok c =
+    subst (AreFound c.args.files.now c.args.prices.now c.args.held.now) (sym c.findings_of.ensures)
+    (record {
+      names = c.in_ok-asked.ensures.names;
+      marks = c.in_ok-asked.ensures.marks;
+      written = c.in_ok-asked.ensures.written;
+      kinds = c.in_ok-kinds.field-0.items;
+      said = c.in_ok-kinds.ensures.ok;
+      kind = c.together.ensures ∙ ap together c.deref.ensures.value;
+      answer = subst (λ q. IsAnswer q c.in_ok-found.field-0) c.in_ok-asked.ensures.value c.in_ok-found.ensures.ok;
+    })

@@ -1,7 +1,18 @@
-use Rattle.std.proofs.Common.{subst, sym, ◌∙◌}
+use Rattle.std.proofs.Common.{subst, sym}
+use Rattle.std.specs.List.{All}
 use Rattle.fs_app_place_order.proofs.Faults.{IfErr-handed}
+use Rattle.fs_app_sites.specs.Sites.{IsSound}
+use Rattle.fs_app_sites_audit.specs.Audited.{AreFound}
+use Rattle.fs_app_sites_audit.specs.Copies.{Held}
 use Rattle.fs_app_sites_audit.proofs.Faults.{first_files, first_findings, first_prices}
 use Rattle.fs_app_sites_audit.proofs.audit.run_audit_sites.Goals as goal
+
+pub find-findings-requires-clause-sound : goal.find-findings-requires-clause-sound
+find-findings-requires-clause-sound c =
+    subst (All (λ (h : Held). IsSound h.asked)) (sym c.deref.ensures.value) c.in_ok-held.ensures.sound
+
+pub find-findings-requires-clause-top : goal.find-findings-requires-clause-top
+find-findings-requires-clause-top c = c.in_ok-table.ensures.ok.top
 
 pub returns-in_err-table-clause-fault : goal.returns-in_err-table-clause-fault
 returns-in_err-table-clause-fault c =
@@ -18,4 +29,13 @@ returns-in_err-findings-clause-fault c =
     (first_findings _ _ _ _ _ _ c.in_ok-table.ensures.ok c.in_ok-held.ensures.ok c.deref.ensures.value c.in_err-findings.ensures.err)
 
 pub returns-clause-answer : goal.returns-clause-answer
-returns-clause-answer c = ?
+returns-clause-answer c = record {
+  table = _;
+  held = c.in_ok-held.field-0.items;
+  findings = c.in_ok-findings.field-0;
+  priced = c.in_ok-table.ensures.ok;
+  read = c.in_ok-held.ensures.ok;
+  found = subst (λ held. AreFound c.args.files.now _ held c.in_ok-findings.field-0) c.deref.ensures.value c.in_ok-findings.ensures.ok;
+  shown = c.in_ok-printed.ensures.text;
+  ends = c.in_ok-printed.ensures.status;
+}

@@ -11,7 +11,7 @@ returns-in_err-said_of-clause-err c =
     IfErr-handed c.from_residual.result _ _ c.from_residual.ensures.1
     (λ n. c.loop-file.invariant.left _
     (own_fault IsSaidOf (λ file. IsFirstTestFault file.bytes.items) c.args.files.now c.loop-file.file-index c.file-item.result (omega arith) c.file-item.is _
-    (subst (λ bytes. IsFirstTestFault bytes c.in_err-said_of.field-0.0) c.deref.ensures.value c.in_err-said_of.ensures.err)))
+    (subst (λ bytes. IsFirstTestFault bytes c.in_err-said_of.field-0.0) c.deref.ensures.value (c.in_err-said_of.ensures.err n))))
 
 pub loop-file-preserved : goal.loop-file-preserved
 loop-file-preserved c =
