@@ -1,5 +1,8 @@
+pub mod Added
 pub mod Combined
 pub mod Faults
+pub mod Lines
+pub mod Members
 pub mod Offered
 pub mod Questions
 pub mod Reading

@@ -1,7 +1,9 @@
 //! The question that files and prices ask, read from their bytes.
 
 ghost use Rattle.std.specs.Prelude.{◌≡◌, ◌≢◌, ◌<◌, map, length, string_bytes, All, IfOk, IfErr, IsSome};
+ghost use Rattle.serde_json.specs.View.{view};
 ghost use Rattle.fs_kinds.specs.declared.fault.Fault.TheVariants.{Memory, NodeLimit};
+ghost use Rattle.fs_kinds.specs.declared.kind.Kind.TheVariants.{RwRw};
 ghost use Rattle.fs_sites.specs.Questions.{IsQuestion};
 ghost use Rattle.fs_app_sites.specs.Asked.{IsAsked, IsFirstAskedFault};
 ghost use Rattle.fs_app_sites.specs.SitePrices.{price_of};
@@ -76,16 +78,17 @@ fn content_of(alloc: Global, tests: &Tests, file: &File) -> Result<Content, Faul
     ensures err { IfErr result (λ f. f ≢ Memory → IsFileFault file.now.bytes.items f) }
 {
     let prefix = prefix_of(alloc, tests.files.as_slice(), file)?;
-    read_content(alloc, &file.bytes, prefix.as_str(), tests.is_free)
+    let content = read_content(alloc, &file.bytes, prefix.as_str(), tests.is_free)?;
+    Ok(content)
 }
 
 /// The question of files that hold this, at prices with one of `rw,rw`.
 fn asked_of(alloc: Global, contents: &[Content], prices: &SitePrices) -> Result<Asked, Fault>
     requires sound { All IsSound contents.now }
-    requires top { IsSome (price_of prices.now Kind.RwRw) }
+    requires top { IsSome (price_of (view prices.now) RwRw) }
     ensures names { IfOk result (λ asked. map string_bytes asked.names ≡ names_of contents.now) }
     ensures value { IfOk result (λ asked. asked.question
-        ≡ question_of prices.now (map string_bytes asked.names) contents.now) }
+        ≡ question_of (view prices.now) (map string_bytes asked.names) contents.now) }
     ensures question { IfOk result (λ asked. IsQuestion asked.question) }
     ensures err { IfErr result (λ f. f ≢ Memory
         → (f ≡ NodeLimit) × (most_sites < length (names_of contents.now))) }

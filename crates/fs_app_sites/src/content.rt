@@ -1,6 +1,6 @@
 //! What a file holds: a test, and the labels in it that name sites.
 
-ghost use Rattle.std.specs.Prelude.{◌≡◌, ◌≢◌, [], true, map, IfOk, IfErr};
+ghost use Rattle.std.specs.Prelude.{◌≡◌, ◌≢◌, [], true, map, IfOk, IfErr, OnOk};
 ghost use Rattle.std.specs.Arc.{arc_value};
 ghost use Rattle.std.specs.List.{list_all};
 ghost use Rattle.fs_kinds.specs.Slot.{is_before, is_rising};
@@ -105,7 +105,9 @@ pub fn read_copies(alloc: Global, bytes: &[u8]) -> Result<List<SiteCopy>, Fault>
     ensures rising { IfOk result (λ copies. is_rising (slots_of (map copy_value copies)) ≡ true) }
     ensures err { IfErr result (λ f. f ≢ Memory → IsLabelsFault bytes.now f) }
 {
-    in_order(named_copies(alloc, bytes)?)
+    let copies = named_copies(alloc, bytes)?;
+    check_order(&copies)?;
+    Ok(List::new(copies))
 }
 
 /// The copies of sites in a file, of which `read_test` has read this test, in the order of their slots. Where `is_free`
@@ -141,7 +143,9 @@ fn copies_in(
     ensures err { IfErr result (λ f. f ≢ Memory → IsLabelsFault bytes.now f) }
 {
     let named = named_copies(alloc, bytes)?;
-    in_order(all_copies(alloc, named, test, prefix, is_free)?)
+    let copies = all_copies(alloc, named, test, prefix, is_free)?;
+    check_order(&copies)?;
+    Ok(List::new(copies))
 }
 
 /// The copies that labels name.
@@ -150,17 +154,17 @@ fn named_copies(alloc: Global, bytes: &[u8]) -> Result<Vec<SiteCopy>, Fault>
     ensures err { IfErr result (λ f. f ≢ Memory → IsLabelsFault bytes.now f) }
 {
     let labels = read_site_labels(alloc, bytes)?;
-    copies_of(alloc, &labels)
+    let copies = copies_of(alloc, &labels)?;
+    Ok(copies)
 }
 
-/// The copies, if their slots rise.
-fn in_order(copies: Vec<SiteCopy>) -> Result<List<SiteCopy>, Fault>
-    ensures ok { IfOk result (λ list. list ≡ copies.items) }
-    ensures rising { IfOk result (λ list. is_rising (slots_of (map copy_value list)) ≡ true) }
+/// F22 where the slots of the copies don't rise.
+fn check_order(copies: &[SiteCopy]) -> Result<(), Fault>
+    ensures rising { OnOk result (is_rising (slots_of (map copy_value copies.now)) ≡ true) }
     ensures err { IfErr result (λ f. f ≡ Unmatched) }
 {
-    if are_rising(&copies) {
-        Ok(List::new(copies))
+    if are_rising(copies) {
+        Ok(())
     } else {
         Err(Fault::Unmatched)
     }
@@ -179,9 +183,10 @@ fn all_copies(
         ≡ all_copies is_free prefix.now test.now (map copy_value copies.items)) }
     ensures err { IfErr result (λ f. f ≡ Memory) }
 {
-    if is_free {
-        add_slots(alloc, &mut copies, test, prefix)?;
+    if !is_free {
+        return Ok(copies);
     }
+    add_slots(alloc, &mut copies, test, prefix)?;
     Ok(copies)
 }
 

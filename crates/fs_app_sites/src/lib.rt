@@ -5,6 +5,7 @@
 mod ask;
 mod content;
 mod free;
+mod laws;
 mod names;
 mod prices;
 mod question;
@@ -14,6 +15,7 @@ mod solve;
 pub use ask::{Asked, read_question};
 pub use content::{File, SiteCopy, Tests, check_file, read_all_copies, read_copies};
 pub use fs_sites_workers::Limits;
+pub use laws::slots_stand_as_slots;
 pub use names::add_copies;
 pub use prices::{SitePrices, check_prices, read_site_prices};
 pub use question::{MOST_SITES, key, offers_of, places_of};

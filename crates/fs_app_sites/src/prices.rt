@@ -23,26 +23,29 @@ const MOST_PRICE: u64 = 1_000_000;
 /// The greatest weight.
 const MOST_WEIGHT: u64 = 1_000;
 
-/// What a fence of each offered kind costs, and by what the prices at each site are multiplied. `read_site_prices` makes
-/// it, and then `rw,rw` is offered. A stronger kind may be cheaper.
+/// What a fence of each offered kind costs, and by what the prices at each site are multiplied, as a JSON object says
+/// it, which contracts see. `read_site_prices` makes it, and then `rw,rw` is offered. A stronger kind may be cheaper.
 #[derive(Drop)]
 pub struct SitePrices {
     object: Value,
 }
 
 impl Model for SitePrices {
-    ghost use Rattle.serde_json.specs.Data.{Data};
-    ghost use Rattle.serde_json.specs.View.{view as seen};
+    ghost use Rattle.std.specs.Coded.{codes};
+    ghost use Rattle.serde_json.specs.contracts.value.Value as value;
+    ghost use Rattle.serde_json.specs.declared.value.Value.{Value as Object};
 
-    ghost Value = { Data };
+    ghost Value = { Object };
 
-    ghost view = { λ prices. seen prices.object };
+    ghost view = { λ prices. prices.object };
+
+    ghost coded = { Prim.hlevel (codes, value.the_row.coded) };
 }
 
 impl SitePrices {
     /// The price of a fence of this kind, from 1 to 1,000,000, where the kind is offered.
     pub fn of(&self, kind: Kind) -> Option<u32>
-        ensures price { result ≡ price_of self.now kind }
+        ensures price { result ≡ price_of (view self.now) kind }
         ensures in_range { IfSome result (λ n. (1 ≤ n) × (n ≤ most_price)) }
     {
         whole(self.object.get(kind.name())?, 1, MOST_PRICE)
@@ -50,7 +53,7 @@ impl SitePrices {
 
     /// The weight of the site of this name, from 0 to 1,000: 1 where the prices say nothing of it.
     pub fn weight(&self, name: &str) -> u32
-        ensures weight { result ≡ weight_of self.now name.now }
+        ensures weight { result ≡ weight_of (view self.now) name.now }
         ensures in_range { result ≤ most_weight }
     {
         self.given_weight(name).unwrap_or(1)
@@ -59,7 +62,7 @@ impl SitePrices {
     /// The weight that the site was given.
     fn given_weight(&self, name: &str) -> Option<u32>
         ensures weight { result ≡ option_and_then (whole 0 most_weight)
-            (option_and_then (get name.now) (get weights_key self.now)) }
+            (option_and_then (get name.now) (get weights_key (view self.now))) }
         ensures in_range { IfSome result (λ n. n ≤ most_weight) }
     {
         whole(self.object.get("weights")?.get(name)?, 0, MOST_WEIGHT)
@@ -68,7 +71,7 @@ impl SitePrices {
     /// What a fence of the kind costs at the site of this name, once for all its copies: price times weight, where the
     /// kind is offered.
     pub fn cost_at(&self, name: &str, kind: Kind) -> Option<u32>
-        ensures value { result ≡ cost_at self.now name.now kind }
+        ensures value { result ≡ cost_at (view self.now) name.now kind }
         ensures most { IfSome result (λ n. n ≤ 1000000000) }
     {
         let price = self.of(kind)?;
@@ -89,7 +92,7 @@ pub fn check_prices(alloc: Global, bytes: &[u8]) -> Result<(), Fault>
 /// such an object, F11 where they are and `rw,rw` has no price, F19. Where a key comes twice, its last value counts. A
 /// name of no site is no fault.
 pub fn read_site_prices(alloc: Global, bytes: &[u8]) -> Result<SitePrices, Fault>
-    ensures ok { IfOk result (AreSitePrices bytes.now) }
+    ensures ok { IfOk result (λ prices. AreSitePrices bytes.now (view prices)) }
     ensures err { IfErr result (λ f. f ≢ Memory → IsSitePricesFault bytes.now f) }
 {
     let object = read_value(alloc, bytes)?;

@@ -1,6 +1,7 @@
 //! The question that files and prices ask.
 
 ghost use Rattle.std.specs.Prelude.{◌≡◌, ◌≤◌, ◌<◌, map, length, string_bytes, IfOk, IsOkUnless};
+ghost use Rattle.serde_json.specs.View.{view};
 ghost use Rattle.fs_kinds.specs.declared.fault.Fault.TheVariants.{Memory};
 ghost use Rattle.fs_app_sites.specs.Sites.{copy_value, key, offer_of, offers_of, part_of, place_of, question_of};
 ghost use Rattle.fs_app_sites.specs.Sites.{most_sites, places_of};
@@ -31,7 +32,7 @@ pub fn key(number: usize) -> Slot
 /// At a site of this number and name each kind that has a price, for its price times the site's weight.
 fn offer_of(prices: &SitePrices, number: usize, name: &str) -> Offer
     requires { number < most_sites }
-    ensures { result ≡ offer_of prices.now (number, name.now) }
+    ensures { result ≡ offer_of (view prices.now) (number, name.now) }
 {
     Offer {
         slot: key(number),
@@ -58,7 +59,7 @@ fn offer_list(
     names: &[String],
 ) -> Result<Vec<Offer>, AllocError>
     requires { length names.now ≤ most_sites }
-    ensures { IfOk result (λ offers. offers.items ≡ offers_of prices.now (map string_bytes names.now)) }
+    ensures { IfOk result (λ offers. offers.items ≡ offers_of (view prices.now) (map string_bytes names.now)) }
 {
     let mut offers = Vec::new(alloc);
     for (number, name) in names.iter().enumerate() {
@@ -75,7 +76,7 @@ pub fn offers_of(
     names: &[String],
 ) -> Result<Offers, AllocError>
     requires { length names.now ≤ most_sites }
-    ensures { IfOk result (λ offers. offers ≡ offers_of prices.now (map string_bytes names.now)) }
+    ensures { IfOk result (λ offers. offers ≡ offers_of (view prices.now) (map string_bytes names.now)) }
 {
     let offers = offer_list(alloc, prices, names)?;
     Ok(Offers::new(offers))
@@ -137,7 +138,7 @@ pub(crate) fn question_of(
     prices: &SitePrices,
 ) -> Result<Question, Fault>
     requires { length names.now ≤ most_sites }
-    ensures value { IfOk result (λ q. q ≡ question_of prices.now (map string_bytes names.now) contents.now) }
+    ensures value { IfOk result (λ q. q ≡ question_of (view prices.now) (map string_bytes names.now) contents.now) }
     ensures err { IsOkUnless result Memory }
 {
     let parts = parts_of(alloc, names, contents)?;

@@ -5,4 +5,4 @@ use Rattle.fs_app_sites.proofs.ask.asked_of.Goals as goal
 
 pub returns-clause-question : goal.returns-clause-question
 returns-clause-question c =
-    subst IsQuestion (sym c.in_ok-question.ensures.value) (is-question _ _ _ c.in_ok-question.ensures.table c.requires)
+    subst IsQuestion (sym c.in_ok-question.ensures.value) (is-question _ _ _ c.requires.top c.requires.sound)

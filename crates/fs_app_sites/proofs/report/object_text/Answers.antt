@@ -7,7 +7,7 @@ use Rattle.fs_app_sites.proofs.report.object_text.Goals as goal
 
 pub json_line-requires : goal.json_line-requires
 json_line-requires c =
-    subst (λ d. has_float d ≡ false) (sym c.in_ok-value.ensures) (whole-value c.args.files.now (map string_bytes c.args.names.now) c.args.answer.now)
+    subst (λ d. has_float d ≡ false) (sym c.in_ok-value.ensures) (whole-value c.args.tests.now (map string_bytes c.args.names.now) c.args.answer.now)
 
 pub returns : goal.returns
 returns c = IfOk-weaker c.json_line.result _ _ (λ text is. is ∙ ap json_line c.in_ok-value.ensures) c.json_line.ensures

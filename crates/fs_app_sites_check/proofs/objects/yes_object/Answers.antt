@@ -11,9 +11,9 @@ use Rattle.fs_app_sites_check.proofs.objects.yes_object.Goals as goal
 pub json_line-requires : goal.json_line-requires
 json_line-requires c =
     let names = map string_bytes c.args.names.now in
-    let answer = value_of c.args.files.now names c.args.answer.now in
+    let answer = value_of c.args.tests.now names c.args.answer.now in
     subst (λ d. has_float d ≡ false) (sym (c.in_ok-value.ensures ∙ ap yes_value c.in_ok-answer.ensures))
-    (yes_whole answer (whole-value c.args.files.now names c.args.answer.now))
+    (yes_whole answer (whole-value c.args.tests.now names c.args.answer.now))
 
 pub returns : goal.returns
 returns c =
