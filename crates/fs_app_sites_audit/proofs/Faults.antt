@@ -9,7 +9,8 @@ use Rattle.fs_sites.specs.declared.answer.Answer.{Answer}
 use Rattle.fs_app_place_order.proofs.Faults.{is_memory}
 use Rattle.fs_app_sites.specs.declared.content.File.{File}
 use Rattle.fs_app_sites.specs.SitePrices.{AreSitePrices, IsSitePricesFault}
-use Rattle.fs_app_sites_audit.specs.Audited.{IsFindFault, of_search, of_verdicts, IsFirstFault, of_prices, of_files, of_findings, of_memory, IsSaidFault, asked_of}
+use Rattle.fs_app_sites_audit.specs.Audited.{IsFindFault, of_search, of_verdicts, IsFirstFault, of_prices, of_files, of_findings, of_memory, IsSaidFault}
+use Rattle.fs_app_sites_audit.specs.Asked.{asked_of}
 use Rattle.fs_app_sites_audit.specs.Copies.{AreHeld, Held, IsFilesFault}
 
 module _ (files : List File) (prices : List ℕ) where

@@ -1,5 +1,5 @@
 -- What `audit --sites` answers, and the fault that it answers.
-use Rattle.std.specs.Prelude.{◌≡◌, Bool, ℕ, Option, List, map, if◌then◌else◌}
+use Rattle.std.specs.Prelude.{◌≡◌, Bool, ℕ, Option, List, if◌then◌else◌}
 use Rattle.std.specs.List.{AllZip, list_any}
 use Rattle.serde_json.specs.Data.{Data}
 use Rattle.fs_kinds.specs.declared.fault.Fault.{Fault}
@@ -7,7 +7,6 @@ use Rattle.fs_kinds.specs.declared.fault.Fault.TheVariants.{Memory}
 use Rattle.fs_model.specs.Witness.{Witness}
 use Rattle.fs_sites.specs.Answers.{IsAnswer, IsSolveFault}
 use Rattle.fs_sites.specs.declared.answer.Answer.{Answer}
-use Rattle.fs_sites.specs.Questions.{Question}
 use Rattle.fs_app_io.specs.declared.status.Status.{Status}
 use Rattle.fs_app_test.specs.declared.said.Kind.{Kind}
 use Rattle.fs_app_test.specs.declared.said.Kind.TheVariants as verdict
@@ -15,7 +14,8 @@ use Rattle.fs_app_test.specs.Status.{is_kind}
 use Rattle.fs_app_test.specs.Verdicts.{IsFirstTestFault, IsTested}
 use Rattle.fs_app_sites.specs.declared.content.File.{File}
 use Rattle.fs_app_sites.specs.SitePrices.{AreSitePrices, IsSitePricesFault}
-use Rattle.fs_app_sites.specs.Sites.{names_of, offers_of, question_of}
+use Rattle.fs_app_sites.specs.Sites.{offers_of}
+use Rattle.fs_app_sites_audit.specs.Asked.{asked_of, names_in}
 use Rattle.fs_app_sites_audit.specs.Copies.{AreHeld, Held, IsFilesFault}
 use Rattle.fs_app_sites_audit.specs.Files.{IsFirstIn}
 use Rattle.fs_app_sites_audit.specs.Marks.{marks_of, written_cost}
@@ -42,14 +42,6 @@ together kinds =
     else if list_any (is_kind verdict.Forbidden) kinds then verdict.Forbidden else verdict.Vacuous
 
 -- ---- the answer
-
--- the names of the sites
-abbrev pub names_in : List Held → List (List ℕ)
-names_in held = names_of (map (λ h. h.asked) held)
-
--- the question of the files without the copies' FENCEs
-abbrev pub asked_of : Data → List Held → Question
-asked_of prices held = question_of prices (names_in held) (map (λ h. h.asked) held)
 
 -- the copies of the sites as they are written, what they cost, and what is said of the files; and the answer
 pub record AreFound (files : List File) (prices : Data) (held : List Held) (f : Findings) : Type 0 where

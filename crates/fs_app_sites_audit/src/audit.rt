@@ -1,6 +1,7 @@
 //! What `audit --sites` answers.
 
 ghost use Rattle.std.specs.Prelude.{◌≡◌, ◌≢◌, All, IfErr, IfOk, IsSome, map, string_bytes};
+ghost use Rattle.serde_json.specs.View.{view};
 ghost use Rattle.fs_kinds.specs.declared.fault.Fault.TheVariants.{Memory};
 ghost use Rattle.fs_kinds.specs.declared.kind.Kind.TheVariants.{RwRw};
 ghost use Rattle.fs_app_sites.specs.SitePrices.{price_of};
@@ -68,9 +69,9 @@ fn find(
     most_steps: usize,
 ) -> Result<Findings, Fault>
     requires sound { All (λ h. IsSound h.asked) held.now }
-    requires top { IsSome (price_of prices.now RwRw) }
-    ensures ok { IfOk result (AreFound files.now prices.now held.now) }
-    ensures err { IfErr result (λ f. f ≢ Memory → IsFindFault files.now prices.now held.now f) }
+    requires top { IsSome (price_of (view prices.now) RwRw) }
+    ensures ok { IfOk result (AreFound files.now (view prices.now) held.now) }
+    ensures err { IfErr result (λ f. f ≢ Memory → IsFindFault files.now (view prices.now) held.now f) }
 {
     let asked = asked_of(alloc, held, prices)?;
     let found = solve(alloc, &asked.question, most_rounds, most_steps)?;

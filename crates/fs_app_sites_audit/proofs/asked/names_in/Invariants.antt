@@ -1,6 +1,6 @@
 use Rattle.std.proofs.Common.{◌≡◌, map, drop, fold, string_bytes}
 use Rattle.fs_app_sites.specs.Sites.{with_copies}
-use Rattle.fs_app_sites_audit.specs.Audited.{names_in}
+use Rattle.fs_app_sites_audit.specs.Asked.{names_in}
 use Rattle.fs_app_sites_audit.proofs.asked.names_in.Given as goal
 
 -- with the names of the files that are left they are those of all

@@ -1,4 +1,5 @@
 use Rattle.std.proofs.Common.{ap, subst, sym, ◌∙◌}
+use Rattle.serde_json.specs.View.{view}
 use Rattle.fs_app_place_order.proofs.Faults.{IfErr-handed}
 use Rattle.fs_sites.specs.Answers.{IsAnswer}
 use Rattle.fs_app_sites_audit.specs.Audited.{AreFound, together}
@@ -22,7 +23,7 @@ returns-in_err-kinds-clause-err c =
 
 pub returns-clause-ok : goal.returns-clause-ok
 returns-clause-ok c =
-    subst (AreFound c.args.files.now c.args.prices.now c.args.held.now) (sym c.findings_of.ensures)
+    subst (AreFound c.args.files.now (view c.args.prices.now) c.args.held.now) (sym c.findings_of.ensures)
     (record {
       names = c.in_ok-asked.ensures.names;
       marks = c.in_ok-asked.ensures.marks;
