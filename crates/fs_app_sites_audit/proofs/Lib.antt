@@ -1,5 +1,5 @@
 pub mod Alike
-pub mod Emptied
+pub mod Without
 pub mod Faults
 pub mod Reading
 pub mod Marked

@@ -1,5 +1,5 @@
 -- What is advised of the FENCEs of each site, in lines.
-use Rattle.std.specs.Prelude.{ℕ, ◌==◌, Bool, true, false, ◌&&◌, not, nat_le, Option, None, Some, List, [], ◌∷◌, ◌++◌, fold, map, if◌then◌else◌}
+use Rattle.std.specs.Prelude.{ℕ, ◌==◌, Bool, true, false, ◌&&◌, nat_le, Option, None, Some, List, [], ◌∷◌, ◌++◌, fold, length, if◌then◌else◌}
 use Rattle.std.specs.List.{flat_map, list_all, list_any, range_with_len}
 use Rattle.fs_kinds.specs.declared.kind.Kind.{Kind as Fence}
 use Rattle.fs_kinds.specs.declared.placement.Entry.{Entry}
@@ -57,8 +57,8 @@ rows_of marks site own = fold (with_mark site own) [] marks
 -- where there is something to say, and some copy has the fence
 abbrev pub told : (site : ℕ) → Option Fence → Option Advice → List Row → List Line
 told site own None rows = []
-told site own (Some advice) [] = []
-told site own (Some advice) (row ∷ rows) = record { site = site; fence = own; advice = advice; rows = row ∷ rows } ∷ []
+told site own (Some advice) rows =
+    if length rows == 0 then [] else record { site = site; fence = own; advice = advice; rows = rows } ∷ []
 
 -- of the copies of the site that have this fence
 abbrev pub fence_line : List Mark → (site : ℕ) → (wanted own : Option Fence) → List Line

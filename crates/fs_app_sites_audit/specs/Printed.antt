@@ -1,5 +1,5 @@
 -- What `audit --sites` prints, and its exit status.
-use Rattle.std.specs.Prelude.{ℕ, Option, None, Some, List, [], ◌∷◌, ◌++◌, codes, fold, length, max, if◌then◌else◌}
+use Rattle.std.specs.Prelude.{ℕ, Option, None, Some, List, [], ◌++◌, codes, fold, length, max, if◌then◌else◌}
 use Rattle.std.specs.Fmt.{decimal}
 use Rattle.std.specs.List.{flat_map, slice_index_or}
 use Rattle.fs_instr.specs.declared.instr.Instr.TheVariants.{FenceTso}

@@ -1,15 +1,16 @@
 //! What a file holds: its test without the FENCEs at copies of sites, the copies, and what is written at them.
 
-ghost use Rattle.std.specs.Prelude.{◌≡◌, ◌≢◌, All, IfOk, IfErr, map};
+ghost use Rattle.std.specs.Prelude.{◌≡◌, ◌≢◌, [], All, IfOk, IfErr, map};
 ghost use Rattle.std.specs.Arc.{arc_value};
 ghost use Rattle.std.specs.List.{enumerate_from, slice_index_or};
 ghost use Rattle.fs_kinds.specs.declared.fault.Fault.TheVariants.{Memory};
 ghost use Rattle.fs_litmus_sites.specs.SiteLabels.{all_of};
 ghost use Rattle.fs_litmus_sites.specs.Sited.{IsSiteFault};
+ghost use Rattle.fs_model.specs.Test.{IsTest};
 ghost use Rattle.fs_model_in_place.specs.InPlace.{written_at};
 ghost use Rattle.fs_app_sites.specs.Sites.{IsFileFault, IsSound, copy_value};
 ghost use Rattle.fs_app_sites_audit.specs.Copies.{AreHeld, Holds, IsFilesFault, IsHeld, IsWritten, LabelsStandIn};
-ghost use Rattle.fs_app_sites_audit.specs.Copies.{line_at, written_of};
+ghost use Rattle.fs_app_sites_audit.specs.Copies.{emptied_at, line_at, written_of};
 
 use crate::emptied::emptied_at;
 use fs_app_audit_text::memory_kind;

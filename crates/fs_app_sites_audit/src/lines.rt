@@ -135,9 +135,10 @@ fn push_told(
 ) -> Result<(), AllocError>
     ensures { OnOk result (lines.new.items ≡ lines.old.items ++ told site own advice rows.items) }
 {
-    if let Some(advice) = advice
-        && !rows.is_empty()
-    {
+    let Some(advice) = advice else {
+        return Ok(());
+    };
+    if !rows.is_empty() {
         lines.push(Line {
             site,
             fence: own,

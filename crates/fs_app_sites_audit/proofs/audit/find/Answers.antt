@@ -28,8 +28,8 @@ returns-clause-ok c =
       names = c.in_ok-asked.ensures.names;
       marks = c.in_ok-asked.ensures.marks;
       written = c.in_ok-asked.ensures.written;
-      kinds = c.in_ok-kinds.field-0.items;
+      kinds = c.in_ok-kinds.kinds.items;
       said = c.in_ok-kinds.ensures.ok;
       kind = c.together.ensures ∙ ap together c.deref.ensures.value;
-      answer = subst (λ q. IsAnswer q c.in_ok-found.field-0) c.in_ok-asked.ensures.value c.in_ok-found.ensures.ok;
+      answer = subst (λ q. IsAnswer q c.in_ok-found.found) c.in_ok-asked.ensures.value c.in_ok-found.ensures.ok;
     })

@@ -31,11 +31,11 @@ returns-in_err-findings-clause-fault c =
 pub returns-clause-answer : goal.returns-clause-answer
 returns-clause-answer c = record {
   table = _;
-  held = c.in_ok-held.field-0.items;
-  findings = c.in_ok-findings.field-0;
+  held = c.in_ok-held.held.items;
+  findings = c.in_ok-findings.findings;
   priced = c.in_ok-table.ensures.ok;
   read = c.in_ok-held.ensures.ok;
-  found = subst (λ held. AreFound c.args.files.now _ held c.in_ok-findings.field-0) c.deref.ensures.value c.in_ok-findings.ensures.ok;
+  found = subst (λ held. AreFound c.args.files.now _ held c.in_ok-findings.findings) c.deref.ensures.value c.in_ok-findings.ensures.ok;
   shown = c.in_ok-printed.ensures.text;
   ends = c.in_ok-printed.ensures.status;
 }

@@ -14,6 +14,7 @@ loop-at-preserved c =
 
 pub returns : goal.returns
 returns c =
-    c.loop-at.invariant
+    c.new.ensures
+    ∙ c.loop-at.invariant
     ∙ ap (map (followed_instr (is_copied (map copy_value c.args.copies.now)) [] c.args.hart))
     (numbered_end c.args.code.now c.loop-at.at (omega arith))

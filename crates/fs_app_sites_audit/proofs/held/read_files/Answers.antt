@@ -1,4 +1,4 @@
-use Rattle.std.proofs.Common.{arith, subst, sym, take}
+use Rattle.std.proofs.Common.{List, arith, subst, sym, take}
 use Rattle.std.specs.List.{All}
 use Rattle.std.proofs.lemmas.List.Elements.{All-push}
 use Rattle.fs_app_place_order.proofs.Faults.{IfErr-handed}
@@ -18,9 +18,9 @@ pub loop-file-preserved : goal.loop-file-preserved
 loop-file-preserved c =
     let is = subst (λ bytes. IsHeld bytes c.in_ok-read_held.field-0) c.deref.ensures.value c.in_ok-read_held.ensures.ok in
     record {
-      read = subst (AreHeld (take _ c.args.files.now)) (sym c.in_ok-push.ensures.items)
+      read = subst (AreHeld (take _ c.args.files.now)) (sym {A = List Held} c.in_ok-push.ensures.items)
           (read_more Holds (λ file. IsFileFault file.bytes.items) c.args.files.now c.loop-file.file-index c.file-item.result (omega arith) c.file-item.is _ _ c.loop-file.invariant.read is);
-      sound = subst (All (λ (h : Held). IsSound h.asked)) (sym c.in_ok-push.ensures.items)
+      sound = subst (All (λ (h : Held). IsSound h.asked)) (sym {A = List Held} c.in_ok-push.ensures.items)
           (All-push (λ (h : Held). IsSound h.asked) _ _ c.loop-file.invariant.sound c.in_ok-read_held.ensures.sound);
       left = λ f fault. c.loop-file.invariant.left f
           (later_fault Holds (λ file. IsFileFault file.bytes.items) c.args.files.now c.loop-file.file-index c.file-item.result (omega arith) c.file-item.is _ f is fault);

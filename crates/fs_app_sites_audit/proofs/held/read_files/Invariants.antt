@@ -1,4 +1,4 @@
-use Rattle.std.proofs.Common.{drop, take, ◌≢◌, ◌≡◌}
+use Rattle.std.proofs.Common.{drop, take}
 use Rattle.std.specs.List.{All}
 use Rattle.fs_kinds.specs.declared.fault.Fault.{Fault}
 use Rattle.fs_app_sites.specs.Sites.{IsSound}

@@ -1,4 +1,4 @@
-use Rattle.std.proofs.Common.{subst, sym}
+use Rattle.std.proofs.Common.{subst, sym, ◌∙◌}
 use Rattle.fs_app_place_order.proofs.Faults.{IfErr-handed}
 use Rattle.fs_litmus.specs.Lines.{StandIn}
 use Rattle.fs_litmus_sites.specs.Sited.{broken}
@@ -15,5 +15,5 @@ returns-clause-ok c = record {
   stand = subst (StandIn c.args.bytes.now) (sym c.deref.ensures.value) c.in_ok-lines.ensures.ok;
   labels = c.deref-2.result.now;
   labels_stand = subst (LabelsStandIn c.args.bytes.now) (sym c.deref-2.ensures.value) c.in_ok-labels.ensures.ok;
-  shown = c.in_ok-written.ensures;
+  shown = c.new.ensures ∙ c.in_ok-written.ensures;
 }

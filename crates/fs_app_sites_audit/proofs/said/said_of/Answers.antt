@@ -16,7 +16,7 @@ returns-in_err-said-clause-err c =
 
 pub returns-clause-ok : goal.returns-clause-ok
 returns-clause-ok c =
-    let said = c.in_ok-said.field-0 in
+    let said = c.in_ok-said.said in
     let told = c.in_ok-said.ensures.ok in
     (string_bytes said.why,
     witness_in said.witness,

@@ -1,8 +1,6 @@
 -- A test is one without its copies' FENCEs too.
-use Rattle.std.proofs.Common.{◌≡◌, ℕ, ◌+◌, List, [], ◌∷◌, map, Bool, true, false, ◌&&◌, if◌then◌else◌, refl, tt}
+use Rattle.std.proofs.Common.{◌≡◌, ℕ, ◌+◌, List, [], ◌∷◌, map, Bool, true, false, ◌&&◌, if◌then◌else◌, refl}
 use Rattle.std.specs.List.{AllZip, enumerate_from}
-use Rattle.fs_instr.specs.Instructions.{is_memory, target_of}
-use Rattle.fs_instr.specs.OfTable.{IsOfTable}
 use Rattle.fs_instr.specs.declared.instr.Instr.{Instr}
 use Rattle.fs_instr.specs.declared.instr.Instr.TheVariants as instr
 use Rattle.fs_kinds.specs.declared.slot.Slot.{Slot}
@@ -19,8 +17,8 @@ itself i = record { target = refl; memory = refl; of_table = λ h. h }
 
 -- what orders memory is a FENCE
 as_devices : (i : Instr) → is_fence i ≡ true → IsAlike i (instr.Fence devices devices)
-as_devices (instr.Fence b a) is = record { target = refl; memory = refl; of_table = λ h. (tt, tt) }
-as_devices instr.FenceTso is = record { target = refl; memory = refl; of_table = λ h. (tt, tt) }
+as_devices (instr.Fence b a) is = record { target = refl; memory = refl; of_table = λ h. (refl, refl) }
+as_devices instr.FenceTso is = record { target = refl; memory = refl; of_table = λ h. (refl, refl) }
 as_devices instr.FenceI is = absurd (cc)
 as_devices (instr.Branch o a b t) is = absurd (cc)
 as_devices (instr.Jump t) is = absurd (cc)
