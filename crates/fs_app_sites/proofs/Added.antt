@@ -1,7 +1,7 @@
 -- A copy added among copies, as the loop over them comes to its place.
 use Rattle.std.proofs.Common.{◌≡◌, ◌<◌, ◌≤◌, ◌+◌, ℕ, Bool, true, false, List, [], ◌∷◌, ◌++◌, map, length, get_or, take, drop, refl, sym, ap, ◌∙◌, append_assoc}
-use Rattle.std.proofs.lemmas.List.{drop_more, take_more, map-append, take-append-drop, take_all}
-use Rattle.std.proofs.Math.ListN.{drop_of_length-le}
+use Rattle.std.specs.List.{insert}
+use Rattle.std.proofs.lemmas.List.{drop-map, drop_all, drop_more, take-map, take_more, map-append, take-append-drop}
 use Rattle.fs_kinds.specs.declared.slot.Slot.{Slot}
 use Rattle.fs_kinds.specs.Slot.{is_before, is_same_slot}
 use Rattle.fs_app_sites.specs.Sites.{Copy, own_copy, with_slot}
@@ -23,42 +23,48 @@ module _ (prefix : List ℕ) (s : Slot) where
     abbrev pub StandsBehind : ℕ → Type 0
     StandsBehind i = map f (take i xs) ++ with_slot prefix (map f (drop i xs)) s ≡ with_slot prefix (map f xs) s
 
+    put : (i : ℕ) → StandsBehind i → with_slot prefix (map f (drop i xs)) s ≡ own_copy prefix s ∷ map f (drop i xs)
+        → with_slot prefix (map f xs) s ≡ insert (map f xs) i (own_copy prefix s)
+    put i is here =
+        let own = own_copy prefix s in
+        sym is ∙ ap (λ cs. map f (take i xs) ++ cs) here
+        ∙ ap (λ cs. cs ++ own ∷ map f (drop i xs)) (sym (take-map f i xs))
+        ∙ ap (λ cs. take i (map f xs) ++ own ∷ cs) (sym (drop-map f i xs))
+
     module _ (i : ℕ) (x : S) (low : i < length xs) (at : x ≡ get_or xs i x) where
-      cut : drop i xs ≡ x ∷ drop (i + 1) xs
-      cut = drop_more xs i x low ∙ ap (λ y. y ∷ drop (i + 1) xs) (sym at)
+      cut : map f (drop i xs) ≡ f x ∷ map f (drop (i + 1) xs)
+      cut = ap (map f) (drop_more xs i x low ∙ ap (λ y. y ∷ drop (i + 1) xs) (sym at))
 
-      cut-mapped : map f (drop i xs) ≡ f x ∷ map f (drop (i + 1) xs)
-      cut-mapped = ap (map f) cut
-
-      pub stands-there : StandsBehind i → is_same_slot (f x).slot s ≡ true → map f xs ≡ with_slot prefix (map f xs) s
+      pub stands-there : StandsBehind i → is_same_slot (f x).slot s ≡ true → with_slot prefix (map f xs) s ≡ map f xs
       stands-there is same =
           let here : with_slot prefix (map f (drop i xs)) s ≡ map f (drop i xs) =
-          ap (λ cs. with_slot prefix cs s) cut-mapped ∙ same-first (f x) (map f (drop (i + 1) xs)) same ∙ sym cut-mapped in
-          ap (map f) (sym (take-append-drop i xs)) ∙ map-append f (take i xs) (drop i xs)
-          ∙ ap (λ cs. map f (take i xs) ++ cs) (sym here) ∙ is
+          ap (λ cs. with_slot prefix cs s) cut ∙ same-first (f x) (map f (drop (i + 1) xs)) same ∙ sym cut in
+          sym is ∙ ap (λ cs. map f (take i xs) ++ cs) here ∙ sym (map-append f (take i xs) (drop i xs))
+          ∙ ap (map f) (take-append-drop i xs)
 
-      pub stands-before : (y : S) → StandsBehind i → is_same_slot (f x).slot s ≡ false → is_before s (f x).slot ≡ true
-          → f y ≡ own_copy prefix s → map f (take i xs ++ y ∷ drop i xs) ≡ with_slot prefix (map f xs) s
-      stands-before y is other before own =
-          let here : with_slot prefix (map f (drop i xs)) s ≡ own_copy prefix s ∷ map f (drop i xs) =
-          ap (λ cs. with_slot prefix cs s) cut-mapped ∙ later-first (f x) (map f (drop (i + 1) xs)) other before
-          ∙ ap (λ (cs : List Copy). own_copy prefix s ∷ cs) (sym cut-mapped) in
-          map-append f (take i xs) (y ∷ drop i xs) ∙ ap (λ c. map f (take i xs) ++ c ∷ map f (drop i xs)) own
-          ∙ ap (λ cs. map f (take i xs) ++ cs) (sym here) ∙ is
+      pub stands-before : StandsBehind i → is_same_slot (f x).slot s ≡ false → is_before s (f x).slot ≡ true
+          → with_slot prefix (map f xs) s ≡ insert (map f xs) i (own_copy prefix s)
+      stands-before is other before =
+          put i is
+          (ap (λ cs. with_slot prefix cs s) cut ∙ later-first (f x) (map f (drop (i + 1) xs)) other before
+          ∙ ap (λ (cs : List Copy). own_copy prefix s ∷ cs) (sym cut))
 
       pub goes-on : StandsBehind i → is_same_slot (f x).slot s ≡ false → is_before s (f x).slot ≡ false → StandsBehind (i + 1)
       goes-on is other before =
           let rest = with_slot prefix (map f (drop (i + 1) xs)) s in
           let here : with_slot prefix (map f (drop i xs)) s ≡ f x ∷ rest =
-          ap (λ cs. with_slot prefix cs s) cut-mapped ∙ earlier-first (f x) (map f (drop (i + 1) xs)) other before in
+          ap (λ cs. with_slot prefix cs s) cut ∙ earlier-first (f x) (map f (drop (i + 1) xs)) other before in
           let more : take (i + 1) xs ≡ take i xs ++ x ∷ [] = take_more xs i x low ∙ ap (λ y. take i xs ++ y ∷ []) (sym at) in
           ap (λ ys. map f ys ++ rest) more ∙ ap (λ cs. cs ++ rest) (map-append f (take i xs) (x ∷ []))
           ∙ append_assoc (map f (take i xs)) (f x ∷ []) rest ∙ ap (λ cs. map f (take i xs) ++ cs) (sym here) ∙ is
 
-    pub stands-last : (i : ℕ) (y : S) → length xs ≤ i → StandsBehind i → f y ≡ own_copy prefix s
-        → map f (xs ++ y ∷ []) ≡ with_slot prefix (map f xs) s
-    stands-last i y all is own =
-        let none : drop i xs ≡ [] = drop_of_length-le xs all in
-        let whole : take i xs ≡ xs = take_all i xs all in
-        map-append f xs (y ∷ []) ∙ ap (λ c. map f xs ++ c ∷ []) own ∙ ap (λ ys. map f ys ++ own_copy prefix s ∷ []) (sym whole)
-        ∙ ap (λ ys. map f (take i xs) ++ with_slot prefix (map f ys) s) (sym none) ∙ is
+    pub stands-last : (i : ℕ) → length xs ≤ i → StandsBehind i
+        → with_slot prefix (map f xs) s ≡ insert (map f xs) i (own_copy prefix s)
+    stands-last i all is =
+        let none : map f (drop i xs) ≡ [] = ap (map f) (drop_all i xs all) in
+        put i is (ap (λ cs. with_slot prefix cs s) none ∙ ap (λ (cs : List Copy). own_copy prefix s ∷ cs) (sym none))
+
+pub inserted : {S : Type 0} (f : S → Copy) (xs : List S) (i : ℕ) (y : S) → map f (insert xs i y) ≡ insert (map f xs) i (f y)
+inserted f xs i y =
+    map-append f (take i xs) (y ∷ drop i xs) ∙ ap (λ cs. cs ++ f y ∷ map f (drop i xs)) (sym (take-map f i xs))
+    ∙ ap (λ cs. take i (map f xs) ++ f y ∷ cs) (sym (drop-map f i xs))

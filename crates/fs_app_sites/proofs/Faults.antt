@@ -1,17 +1,42 @@
 -- Which fault is answered first.
-use Rattle.std.proofs.Common.{◌≡◌, ◌≢◌, ◌<◌, inl, inr, ℕ, List, length, refl, sym, ap, subst, ◌∙◌}
+use Rattle.std.proofs.Common.{◌≡◌, ◌≢◌, ◌<◌, ◌⊎◌, inl, inr, ℕ, Bool, true, false, Some, List, Result, Err, length, refl, sym, ap, subst, ◌∙◌}
+use Rattle.std.specs.Bool.{Decides}
+use Rattle.std.specs.Result.{IsErrOf}
+use Rattle.std.specs.Str.{IsUtf8}
 use Rattle.serde_json.specs.Data.{Data}
+use Rattle.serde_json.specs.Read.{read}
 use Rattle.fs_kinds.specs.declared.fault.Fault.{Fault}
-use Rattle.fs_kinds.specs.declared.fault.Fault.TheVariants.{Memory, NodeLimit}
+use Rattle.fs_kinds.specs.declared.fault.Fault.TheVariants.{BadPrices, Memory, NodeLimit}
 use Rattle.fs_sites.specs.Answers.{IsSolveFault}
 use Rattle.fs_sites.specs.Questions.{Question}
 use Rattle.fs_app_place_order.proofs.Faults.{is_memory}
 use Rattle.fs_app_sites.specs.declared.content.Tests.{Tests}
 use Rattle.fs_app_sites.specs.Asked.{IsAsked, IsFirstAskedFault}
 use Rattle.fs_app_sites.specs.Asked as asked
-use Rattle.fs_app_sites.specs.SitePrices.{AreSitePrices, IsSitePricesFault}
+use Rattle.fs_app_sites.specs.SitePrices.{AreSitePrices, IsPriceValue, IsSitePricesFault, no_prices}
 use Rattle.fs_app_sites.specs.Sites.{Content, AreContents, IsFilesFault, most_sites, names_of, question_of}
 use Rattle.fs_app_sites.specs.Solved.{IsFirstSitesFault, of_prices, of_files, of_search, of_memory}
+
+-- ---- of prices
+
+pub read-fault : {T : Type 0} (bytes : List ℕ) (f : Fault) → (f ≡ BadPrices) ⊎ (f ≡ Memory)
+    → (IsErrOf {T = T} (Err f) BadPrices → (d : Data) → IsUtf8 bytes → ¬ (read bytes ≡ Some d)) → f ≢ Memory → IsSitePricesFault bytes f
+read-fault bytes f fault bad n =
+    elim fault [
+      | inl e ↦ subst (IsSitePricesFault bytes) (sym e)
+          (no_prices (λ d have. bad (ap (λ x. Err x) e) d have.utf8 have.reads))
+      | inr e ↦ absurd (n e)
+    ]
+
+-- the value that was read is no object of prices
+pub refused-fault : (bytes : List ℕ) (value : Data) (r : Bool) → read bytes ≡ Some value → Decides r (IsPriceValue value) → r ≡ false
+    → IsSitePricesFault bytes BadPrices
+refused-fault bytes value r reads decides no =
+    no_prices (λ d have.
+    let again = have.reads in
+    let same : d ≡ value = cc in
+    let yes = decides.1 (subst IsPriceValue same have.value) in
+    absurd (cc))
 
 module _ (tests : Tests) (prices : List ℕ) where
   -- ---- of the question

@@ -3,6 +3,7 @@ use Rattle.std.proofs.Common.{◌≡◌, ◌≢◌, ◌<◌, ◌+◌, ◌==◌, 
 use Rattle.std.specs.List.{after_first, before_first, position_or_len, prefix_len}
 use Rattle.std.specs.Fmt.{decimal}
 use Rattle.std.proofs.lemmas.Bool.Decides.{nat_tests}
+use Rattle.std.proofs.lemmas.List.{length-append}
 use Rattle.std.proofs.lemmas.Str.Pattern.{IsSplitOnceResult, split_once_first}
 use denote.Ref.{Bor}
 use Rattle.fs_kinds.specs.declared.kind.Kind.{Kind}
@@ -10,15 +11,12 @@ use Rattle.fs_kinds.specs.declared.slot.Slot.{Slot}
 use Rattle.fs_kinds.specs.Slot.{IsSlot, place_name, slot_name}
 use Rattle.fs_kinds.proofs.Names.{not_in_decimal, place_name-parts}
 use Rattle.fs_cert_evidence.specs.Texts.{fence_line}
-use Rattle.fs_app_error_messages.specs.Messages.{name_text}
 use Rattle.fs_app_sites.specs.Printed.{has_colon, is_colon, place_text, site_line}
 
--- ---- cut once
+-- ---- cut at the first colon
 
-pub uncut : (name : List ℕ) → IsSplitOnceResult 58 name None → has_colon name ≡ false
-uncut name split =
-    let none = split_once_first 58 name None split (omega arith) in
-    grind (arith, nat_tests, none)
+below : (m n : ℕ) → m < n → nat_lt m n ≡ true
+below m n low = grind (arith, nat_tests, low)
 
 -- the parts round the first colon
 pub record IsCut (name hart at : List ℕ) : Type 0 where
@@ -30,19 +28,17 @@ pub is-cut : (name : List ℕ) (parts : Bor (List ℕ) × Bor (List ℕ)) → Is
     → IsCut name parts.0.now parts.1.now
 is-cut name parts split =
     let cut = split_once_first 58 name (Some parts) split (omega arith) in
-    let low = cut.0 in
-    record { has = grind (arith, nat_tests, low); before = sym cut.1; after = sym cut.2 }
+    record {
+      has = below (position_or_len is_colon name) (length name) cut.0;
+      before = sym cut.1;
+      after = sym cut.2;
+    }
 
 -- ---- the site in words
 
-pub text-uncut : (is_alone : Bool) (name : List ℕ) → IsSplitOnceResult 58 name None → place_text is_alone name ≡ codes "site " ++ name
-text-uncut is_alone name split = rw (uncut name split) refl
-
-pub text-alone : (name hart at : List ℕ) → IsCut name hart at → place_text true name ≡ codes "fence " ++ hart ++ codes " " ++ at
-text-alone name hart at cut = rw (cut.has, cut.before, cut.after) refl
-
-pub text-among : (name hart at : List ℕ) → IsCut name hart at → place_text false name ≡ codes "site " ++ name_text name
-text-among name hart at cut = rw cut.has refl
+pub text-alone : (is_alone : Bool) (name hart at : List ℕ) → is_alone ≡ true → IsCut name hart at
+    → place_text is_alone name ≡ codes "fence " ++ hart ++ codes " " ++ at
+text-alone is_alone name hart at alone cut = rw (alone, cut.has, cut.before, cut.after) refl
 
 -- ---- the name of a slot
 
@@ -68,10 +64,9 @@ drop-front [] ys y n is = rw is refl
 drop-front (x ∷ xs) ys y n is = rw is (drop-front xs ys y (suc (length xs)) refl)
 
 within : (xs ys : List ℕ) (n : ℕ) → n ≡ length xs → nat_lt n (length (xs ++ 58 ∷ ys)) ≡ true
-within [] ys n is = grind (arith, nat_tests, is)
-within (x ∷ xs) ys n is =
-    let rest = within xs ys (length xs) refl in
-    grind (arith, nat_tests, is, rest)
+within xs ys n is =
+    let long = length-append xs (58 ∷ ys) in
+    below n (length (xs ++ 58 ∷ ys)) (omega (arith, is, long))
 
 cut-at : (xs ys : List ℕ) → ((i : ℕ) → i < length xs → get_or xs i 0 ≢ 58) → IsCut (xs ++ 58 ∷ ys) xs ys
 cut-at xs ys lacks =
@@ -94,5 +89,5 @@ cut-slot s is =
 pub slot-line : (s : Slot) (kind : Option Kind) → IsSlot s → site_line true (slot_name s) kind ≡ fence_line s kind
 slot-line s None is = refl
 slot-line s (Some kind) is =
-    let told = text-alone (slot_name s) (80 ∷ decimal s.hart) (decimal s.at) (cut-slot s is) in
+    let told = text-alone true (slot_name s) (80 ∷ decimal s.hart) (decimal s.at) refl (cut-slot s is) in
     rw told refl

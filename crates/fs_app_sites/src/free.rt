@@ -1,6 +1,7 @@
 //! Slots that are sites of their own.
 
-ghost use Rattle.std.specs.Prelude.{◌≡◌, map, string_bytes, IfOk, OnOk, IsOkUnless};
+ghost use Rattle.std.specs.Prelude.{◌≡◌, ◌≤◌, ℕ, List, length, map, string_bytes, IfNone, IfOk, IfSome, IsOkUnless, OnOk};
+ghost use Rattle.std.specs.List.{insert};
 ghost use Rattle.fs_kinds.specs.declared.fault.Fault.TheVariants.{Memory};
 ghost use Rattle.fs_model.specs.Slots.{slots};
 ghost use Rattle.fs_model.specs.Test.{IsBounded};
@@ -33,7 +34,27 @@ fn own_copy(alloc: Global, prefix: &str, slot: Slot) -> Result<SiteCopy, AllocEr
     })
 }
 
-/// Adds the copy of the slot before the first one that stands later, unless one stands at the slot.
+/// Before which copy that of the slot is put: the first one that stands later, or behind all. None where one stands at
+/// the slot.
+fn place_among(copies: &[SiteCopy], slot: Slot) -> Option<usize>
+    ensures within { IfSome result (λ at. at ≤ length copies.now) }
+    ensures some { IfSome result (λ at. (prefix : List ℕ) → with_slot prefix (map copy_value copies.now) slot
+        ≡ insert (map copy_value copies.now) at (own_copy prefix slot)) }
+    ensures none { IfNone result ((prefix : List ℕ) → with_slot prefix (map copy_value copies.now) slot
+        ≡ map copy_value copies.now) }
+{
+    for (at, copy) in copies.iter().enumerate() {
+        if copy.slot == slot {
+            return None;
+        }
+        if is_before(slot, copy.slot) {
+            return Some(at);
+        }
+    }
+    Some(copies.len())
+}
+
+/// Adds the copy of the slot, unless one stands there.
 fn add_slot(
     alloc: Global,
     copies: &mut Vec<SiteCopy>,
@@ -43,17 +64,9 @@ fn add_slot(
     ensures { OnOk result (map copy_value copies.new.items
         ≡ with_slot prefix.now (map copy_value copies.old.items) slot) }
 {
-    for at in 0..copies.len() {
-        let other = copies[at].slot;
-        if other == slot {
-            return Ok(());
-        }
-        if is_before(slot, other) {
-            copies.insert(at, own_copy(alloc, prefix, slot)?)?;
-            return Ok(());
-        }
+    if let Some(at) = place_among(copies, slot) {
+        copies.insert(at, own_copy(alloc, prefix, slot)?)?;
     }
-    copies.push(own_copy(alloc, prefix, slot)?)?;
     Ok(())
 }
 

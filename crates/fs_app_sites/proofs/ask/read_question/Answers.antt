@@ -6,6 +6,9 @@ use Rattle.fs_app_sites.proofs.Faults.{asked-files, asked-prices, asked-sites}
 use Rattle.fs_app_sites.proofs.Reading.{is-asked}
 use Rattle.fs_app_sites.proofs.ask.read_question.Goals as goal
 
+pub asked_of-requires-clause-top : goal.asked_of-requires-clause-top
+asked_of-requires-clause-top c = c.in_ok-table.ensures.ok.top
+
 pub returns-in_err-table-clause-fault : goal.returns-in_err-table-clause-fault
 returns-in_err-table-clause-fault c =
     IfErr-handed c.from_residual.result _ _ c.from_residual.ensures.1 (asked-prices _ _ _ c.in_err-table.ensures.err)
