@@ -1,5 +1,5 @@
 -- What `audit --sites` answers, and the fault that it answers.
-use Rattle.std.specs.Prelude.{◌≡◌, ◌⊎◌, Bool, ℕ, Option, List, [], ◌∷◌, map, if◌then◌else◌}
+use Rattle.std.specs.Prelude.{◌≡◌, Bool, ℕ, Option, List, if◌then◌else◌}
 use Rattle.std.specs.List.{AllZip, list_any}
 use Rattle.serde_json.specs.Data.{Data}
 use Rattle.fs_kinds.specs.declared.fault.Fault.{Fault}
@@ -7,7 +7,6 @@ use Rattle.fs_kinds.specs.declared.fault.Fault.TheVariants.{Memory}
 use Rattle.fs_model.specs.Witness.{Witness}
 use Rattle.fs_sites.specs.Answers.{IsAnswer, IsSolveFault}
 use Rattle.fs_sites.specs.declared.answer.Answer.{Answer}
-use Rattle.fs_sites.specs.Questions.{Question}
 use Rattle.fs_app_io.specs.declared.status.Status.{Status}
 use Rattle.fs_app_test.specs.declared.said.Kind.{Kind}
 use Rattle.fs_app_test.specs.declared.said.Kind.TheVariants as verdict
@@ -15,27 +14,26 @@ use Rattle.fs_app_test.specs.Status.{is_kind}
 use Rattle.fs_app_test.specs.Verdicts.{IsFirstTestFault, IsTested}
 use Rattle.fs_app_sites.specs.declared.content.File.{File}
 use Rattle.fs_app_sites.specs.SitePrices.{AreSitePrices, IsSitePricesFault}
-use Rattle.fs_app_sites.specs.Sites.{names_of, offers_of, question_of}
+use Rattle.fs_app_sites.specs.Sites.{offers_of}
+use Rattle.fs_app_sites_audit.specs.Asked.{asked_of, names_in}
 use Rattle.fs_app_sites_audit.specs.Copies.{AreHeld, Held, IsFilesFault}
+use Rattle.fs_app_sites_audit.specs.Files.{IsFirstIn}
 use Rattle.fs_app_sites_audit.specs.Marks.{marks_of, written_cost}
 use Rattle.fs_app_sites_audit.specs.Objects.{shown_text}
 use Rattle.fs_app_sites_audit.specs.Printed.{Findings, status_of}
 
 -- ---- as they are written
 
--- what `test` says of the bytes of a file
-abbrev pub IsSaidOf : List ℕ → Kind → Type 0
-IsSaidOf bytes kind = (why : List ℕ) × (witness : Option Witness) × IsTested bytes kind why witness
+-- what `test` says of a file
+abbrev pub IsSaidOf : File → Kind → Type 0
+IsSaidOf file kind = (why : List ℕ) × (witness : Option Witness) × IsTested file.bytes.items kind why witness
 
--- of each file
 abbrev pub AreSaid : List File → List Kind → Type 0
-AreSaid = AllZip (λ file kind. IsSaidOf file.bytes.items kind)
+AreSaid = AllZip IsSaidOf
 
 -- the fault that it names, of the first file that has one
 abbrev pub IsSaidFault : List File → Fault → Type 0
-IsSaidFault [] fault = ⊥
-IsSaidFault (file ∷ files) fault =
-    IsFirstTestFault file.bytes.items fault ⊎ (((kind : Kind) × IsSaidOf file.bytes.items kind) × IsSaidFault files fault)
+IsSaidFault = IsFirstIn IsSaidOf (λ file. IsFirstTestFault file.bytes.items)
 
 -- of all together: allowed where one is, else forbidden where one is
 abbrev pub together : List Kind → Kind
@@ -45,46 +43,40 @@ together kinds =
 
 -- ---- the answer
 
--- the names of the sites
-abbrev pub names_in : List Held → List (List ℕ)
-names_in held = names_of (map (λ h. h.asked) held)
+-- the copies of the sites as they are written, what they cost, and what is said of the files; and the answer
+pub record AreFound (files : List File) (prices : Data) (held : List Held) (f : Findings) : Type 0 where
+  pub names : f.names ≡ names_in held
+  pub marks : f.marks ≡ marks_of (names_in held) held
+  pub written : f.written ≡ written_cost (marks_of (names_in held) held) (offers_of prices (names_in held))
+  pub kinds : List Kind
+  pub said : AreSaid files kinds
+  pub kind : f.kind ≡ together kinds
+  pub answer : IsAnswer (asked_of prices held) f.found
 
--- the question of the files without the copies' FENCEs
-abbrev pub asked_of : Data → List Held → Question
-asked_of prices held = question_of prices (names_in held) (map (λ h. h.asked) held)
-
-abbrev pub findings_of : Data → List Held → List Kind → Answer → Findings
-findings_of prices held kinds found = record {
-  names = names_in held;
-  marks = marks_of (names_in held) held;
-  written = written_cost (marks_of (names_in held) held) (offers_of prices (names_in held));
-  kind = together kinds;
-  found = found;
-}
-
--- what the files hold, what is said of them as they are written, and the answer to the question without the copies'
--- FENCEs are printed
+-- what the files hold, and what is found of it at these prices, is printed
 pub record IsAudited (is_json : Bool) (files : List File) (prices text : List ℕ) (status : Status) : Type 0 where
   pub table : Data
   pub held : List Held
-  pub kinds : List Kind
-  pub found : Answer
+  pub findings : Findings
   pub priced : AreSitePrices prices table
   pub read : AreHeld files held
-  pub answer : IsAnswer (asked_of table held) found
-  pub said : AreSaid files kinds
-  pub shown : text ≡ shown_text is_json files (findings_of table held kinds found)
-  pub ends : status ≡ status_of (findings_of table held kinds found)
+  pub found : AreFound files table held findings
+  pub shown : text ≡ shown_text is_json files findings
+  pub ends : status ≡ status_of findings
 
--- the first fault: of the prices, else of the files, else of the search, else of what is said of the files as they are
--- written; want of memory may come in place of any answer
+-- ---- faults
+
+-- of the search, else of what is said of the files as they are written
+pub data IsFindFault (files : List File) (prices : Data) (held : List Held) : Fault → Type 0 where
+  of_search : {fault : Fault} → IsSolveFault (asked_of prices held).parts fault → IsFindFault files prices held fault
+  of_verdicts : {fault : Fault} (found : Answer) → IsAnswer (asked_of prices held) found → IsSaidFault files fault
+      → IsFindFault files prices held fault
+
+-- the first fault: of the prices, else of the files, else such a one; want of memory may come in place of any answer
 pub data IsFirstFault (files : List File) (prices : List ℕ) : Fault → Type 0 where
   of_prices : {fault : Fault} → IsSitePricesFault prices fault → IsFirstFault files prices fault
   of_files : {fault : Fault} (table : Data) → AreSitePrices prices table → IsFilesFault files fault
       → IsFirstFault files prices fault
-  of_search : {fault : Fault} (table : Data) (held : List Held) → AreSitePrices prices table → AreHeld files held
-      → IsSolveFault (asked_of table held).parts fault → IsFirstFault files prices fault
-  of_verdicts : {fault : Fault} (table : Data) (held : List Held) (found : Answer) → AreSitePrices prices table
-      → AreHeld files held → IsAnswer (asked_of table held) found → IsSaidFault files fault
-      → IsFirstFault files prices fault
+  of_findings : {fault : Fault} (table : Data) (held : List Held) → AreSitePrices prices table → AreHeld files held
+      → IsFindFault files table held fault → IsFirstFault files prices fault
   of_memory : IsFirstFault files prices Memory

@@ -1,5 +1,5 @@
 -- What is written at the copies of sites, and the tests in which just these FENCEs order nothing.
-use Rattle.std.specs.Prelude.{◌≡◌, ◌⊎◌, ℕ, Bool, List, [], ◌∷◌, map}
+use Rattle.std.specs.Prelude.{◌≡◌, ℕ, Bool, List, [], map}
 use Rattle.std.specs.List.{AllZip, enumerate_from, list_any, slice_index_or}
 use Rattle.fs_instr.specs.declared.instr.Instr.{Instr}
 use Rattle.fs_kinds.specs.declared.fault.Fault.{Fault}
@@ -13,6 +13,7 @@ use Rattle.fs_litmus_sites.specs.SiteLabels.{SiteLabel}
 use Rattle.fs_litmus_sites.specs.Sited.{HasSites}
 use Rattle.fs_app_sites.specs.declared.content.File.{File}
 use Rattle.fs_app_sites.specs.Sites.{Content, Copy, HaveCopies, IsFileFault}
+use Rattle.fs_app_sites_audit.specs.Files.{IsFirstIn}
 use Rattle.fs_app_sites_audit.specs.declared.held.Written.{Written}
 
 -- ---- without the copies' FENCEs
@@ -66,12 +67,13 @@ pub record IsHeld (bytes : List ℕ) (h : Held) : Type 0 where
   pub emptied : h.asked.test ≡ emptied_at h.asked.copies test
   pub written : IsWritten bytes test.codes h.asked.copies h.written
 
--- that of each file
+-- that of a file
+abbrev pub Holds : File → Held → Type 0
+Holds file = IsHeld file.bytes.items
+
 abbrev pub AreHeld : List File → List Held → Type 0
-AreHeld = AllZip (λ file h. IsHeld file.bytes.items h)
+AreHeld = AllZip Holds
 
 -- of the first file that has one
 abbrev pub IsFilesFault : List File → Fault → Type 0
-IsFilesFault [] fault = ⊥
-IsFilesFault (file ∷ files) fault =
-    IsFileFault file.bytes.items fault ⊎ (((h : Held) × IsHeld file.bytes.items h) × IsFilesFault files fault)
+IsFilesFault = IsFirstIn Holds (λ file. IsFileFault file.bytes.items)

@@ -1,4 +1,6 @@
+pub mod Files
 pub mod Copies
+pub mod Asked
 pub mod Marks
 pub mod Lines
 pub mod Printed

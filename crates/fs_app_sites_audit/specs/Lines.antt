@@ -1,5 +1,5 @@
 -- What is advised of the FENCEs of each site, in lines.
-use Rattle.std.specs.Prelude.{ℕ, ◌==◌, Bool, true, false, ◌&&◌, not, nat_le, Option, None, Some, List, [], ◌∷◌, ◌++◌, fold, map, if◌then◌else◌}
+use Rattle.std.specs.Prelude.{ℕ, ◌==◌, Bool, true, false, ◌&&◌, nat_le, Option, None, Some, List, [], ◌∷◌, ◌++◌, fold, length, if◌then◌else◌}
 use Rattle.std.specs.List.{flat_map, list_all, list_any, range_with_len}
 use Rattle.fs_kinds.specs.declared.kind.Kind.{Kind as Fence}
 use Rattle.fs_kinds.specs.declared.placement.Entry.{Entry}
@@ -57,21 +57,21 @@ rows_of marks site own = fold (with_mark site own) [] marks
 -- where there is something to say, and some copy has the fence
 abbrev pub told : (site : ℕ) → Option Fence → Option Advice → List Row → List Line
 told site own None rows = []
-told site own (Some advice) [] = []
-told site own (Some advice) (row ∷ rows) = record { site = site; fence = own; advice = advice; rows = row ∷ rows } ∷ []
+told site own (Some advice) rows =
+    if length rows == 0 then [] else record { site = site; fence = own; advice = advice; rows = rows } ∷ []
 
 -- of the copies of the site that have this fence
 abbrev pub fence_line : List Mark → (site : ℕ) → (wanted own : Option Fence) → List Line
 fence_line marks site wanted own = told site own (advice_for wanted own) (rows_of marks site own)
 
--- of the site: of copies without a fence first, then by kind
-abbrev pub site_lines : List Mark → (wanted : ℕ → Option Fence) → (site : ℕ) → List Line
-site_lines marks wanted site =
-    fence_line marks site (wanted site) None ++ flat_map (λ kind. fence_line marks site (wanted site) (Some kind)) all_kinds
+-- of a site that is to have this fence: of copies without a fence first, then by kind
+abbrev pub site_lines : List Mark → (site : ℕ) → (wanted : Option Fence) → List Line
+site_lines marks site wanted =
+    fence_line marks site wanted None ++ flat_map (λ kind. fence_line marks site wanted (Some kind)) all_kinds
 
 -- of so many sites
 abbrev pub lines_of : (sites : ℕ) → List Mark → (wanted : ℕ → Option Fence) → List Line
-lines_of sites marks wanted = flat_map (site_lines marks wanted) (range_with_len 0 sites)
+lines_of sites marks wanted = flat_map (λ site. site_lines marks site (wanted site)) (range_with_len 0 sites)
 
 -- there is nothing to change
 abbrev pub are_content : List Line → Bool

@@ -1,5 +1,5 @@
 -- The copies of all sites as they are written, and what they cost.
-use Rattle.std.specs.Prelude.{ℕ, ◌+◌, ◌==◌, Bool, true, false, Option, None, Some, option_and_then, unwrap_or, List, [], ◌∷◌, map, if◌then◌else◌}
+use Rattle.std.specs.Prelude.{ℕ, ◌+◌, ◌==◌, Bool, true, false, Option, None, Some, option_and_then, unwrap_or, List, [], ◌∷◌, if◌then◌else◌}
 use Rattle.std.specs.List.{enumerate_from, find, flat_map, list_all}
 use Rattle.std.specs.Option.{option_or}
 use Rattle.fs_kinds.specs.declared.kind.Kind.{Kind}
@@ -7,7 +7,7 @@ use Rattle.fs_kinds.specs.Kind.{all_kinds, no_stronger, table_index}
 use Rattle.fs_board_offers.specs.Breaks.{least_of}
 use Rattle.fs_board_offers.specs.Offers.{Offer, Offers, price_of}
 use Rattle.fs_sites.specs.declared.question.Place.{Place}
-use Rattle.fs_app_sites.specs.Sites.{Content, places_of}
+use Rattle.fs_app_sites.specs.Sites.{places_of}
 use Rattle.fs_app_sites_audit.specs.declared.held.Written.{Written}
 use Rattle.fs_app_sites_audit.specs.declared.marks.Mark.{Mark}
 use Rattle.fs_app_sites_audit.specs.Copies.{Held}

@@ -1,11 +1,12 @@
 -- What `audit --sites` prints, and its exit status.
-use Rattle.std.specs.Prelude.{ℕ, Option, None, Some, List, [], ◌∷◌, ◌++◌, codes, fold, length, max, if◌then◌else◌}
+use Rattle.std.specs.Prelude.{ℕ, Option, None, Some, List, [], ◌++◌, codes, fold, length, max, if◌then◌else◌}
 use Rattle.std.specs.Fmt.{decimal}
 use Rattle.std.specs.List.{flat_map, slice_index_or}
 use Rattle.fs_instr.specs.declared.instr.Instr.TheVariants.{FenceTso}
 use Rattle.fs_kinds.specs.declared.kind.Kind.{Kind as Fence}
 use Rattle.fs_kinds.specs.Kind.{word}
-use Rattle.fs_cert_evidence.specs.Texts.{line, witness_text}
+use Rattle.fs_cert_evidence.specs.Texts.{witness_text}
+use Rattle.fs_model.specs.Printed.{ended}
 use Rattle.fs_model.specs.Witness.{Witness}
 use Rattle.fs_sites.specs.declared.answer.Answer.{Answer}
 use Rattle.fs_sites.specs.declared.answer.Answer.TheVariants as answer
@@ -50,7 +51,7 @@ cheapest_text (answer.None number w) = codes "no fences rule it out"
 -- such as `forbidden as written, 9; cheapest 7`
 abbrev pub first_line : Kind → (written : Option ℕ) → Answer → List ℕ
 first_line kind written found =
-    line (kind_text kind ++ (codes " as written" ++ (written_text written ++ (codes "; " ++ cheapest_text found))))
+    ended (kind_text kind ++ (codes " as written" ++ (written_text written ++ (codes "; " ++ cheapest_text found))))
 
 -- ---- a line of a site
 
@@ -69,7 +70,7 @@ row_text files row = codes " " ++ (name_text (name_at files row.file) ++ (codes 
 -- the site, the fence, what is advised, and where copies have the fence
 abbrev pub line_text : List File → (names : List (List ℕ)) → Line → List ℕ
 line_text files names l =
-    line (padded (width names) (slice_index_or names l.site []) ++ (codes "  " ++ (padded 5 (fence_text l.fence)
+    ended (padded (width names) (slice_index_or names l.site []) ++ (codes "  " ++ (padded 5 (fence_text l.fence)
     ++ (codes "  " ++ (padded 16 (advice_text FenceTso l.advice) ++ flat_map (row_text files) l.rows)))))
 
 -- ---- the whole
@@ -84,7 +85,7 @@ found_lines f = answer_lines f f.found
 
 -- the file whose outcome can't be ruled out, and an execution that shows it with rw,rw at every site
 abbrev pub shown_lines : (name : List ℕ) → Witness → List ℕ
-shown_lines name w = line (name_text name) ++ line (witness_text w)
+shown_lines name w = name_text name ++ (codes "\n" ++ ended (witness_text w))
 
 abbrev pub below : List File → (names : List (List ℕ)) → List Line → Answer → List ℕ
 below files names lines (answer.Fenced p cost) = flat_map (line_text files names) lines

@@ -1,12 +1,13 @@
 //! The question that files ask without the FENCEs at copies of sites.
 
 ghost use Rattle.std.specs.Prelude.{◌≡◌, ◌≢◌, ◌≤◌, ◌<◌, All, IfErr, IfOk, IsSome, length, map, string_bytes};
+ghost use Rattle.serde_json.specs.View.{view};
 ghost use Rattle.fs_kinds.specs.declared.kind.Kind.TheVariants as kind;
 ghost use Rattle.fs_kinds.specs.declared.fault.Fault.TheVariants.{Memory, NodeLimit};
 ghost use Rattle.fs_sites.specs.Questions.{IsQuestion};
 ghost use Rattle.fs_app_sites.specs.SitePrices.{price_of};
 ghost use Rattle.fs_app_sites.specs.Sites.{IsSound, most_sites, offers_of, part_of, question_of};
-ghost use Rattle.fs_app_sites_audit.specs.Audited.{asked_of, names_in};
+ghost use Rattle.fs_app_sites_audit.specs.Asked.{asked_of, names_in};
 ghost use Rattle.fs_app_sites_audit.specs.Marks.{marks_of, written_cost};
 
 use crate::cost::written_cost;
@@ -33,8 +34,8 @@ fn names_in(alloc: Global, held: &[Held]) -> Result<Vec<String>, AllocError>
     ensures { IfOk result (λ names. map string_bytes names.items ≡ names_in held.now) }
 {
     let mut names = Vec::new(alloc);
-    for held in held {
-        add_copies(alloc, &mut names, &held.copies)?;
+    for here in held {
+        add_copies(alloc, &mut names, &here.copies)?;
     }
     Ok(names)
 }
@@ -55,8 +56,8 @@ fn parts_of(alloc: Global, names: &[String], held: &[Held]) -> Result<Vec<Part>,
         ≡ map (part_of (map string_bytes names.now)) (map (λ h. h.asked) held.now)) }
 {
     let mut parts = Vec::new(alloc);
-    for held in held {
-        parts.push(part_of(alloc, names, held)?)?;
+    for here in held {
+        parts.push(part_of(alloc, names, here)?)?;
     }
     Ok(parts)
 }
@@ -70,7 +71,7 @@ fn question_of(
 ) -> Result<Question, AllocError>
     requires { length names.now ≤ most_sites }
     ensures { IfOk result (λ q. q
-        ≡ question_of prices.now (map string_bytes names.now) (map (λ h. h.asked) held.now)) }
+        ≡ question_of (view prices.now) (map string_bytes names.now) (map (λ h. h.asked) held.now)) }
 {
     let parts = parts_of(alloc, names, held)?;
     let offers = offers_of(alloc, prices, names)?;
@@ -90,11 +91,11 @@ fn asked_by(
     requires { length names.items ≤ most_sites }
     ensures names { IfOk result (λ asked. map string_bytes asked.names ≡ map string_bytes names.items) }
     ensures question { IfOk result (λ asked. asked.question
-        ≡ question_of prices.now (map string_bytes names.items) (map (λ h. h.asked) held.now)) }
+        ≡ question_of (view prices.now) (map string_bytes names.items) (map (λ h. h.asked) held.now)) }
     ensures marks { IfOk result (λ asked. asked.marks ≡ marks_of (map string_bytes names.items) held.now) }
     ensures written { IfOk result (λ asked. asked.written
         ≡ written_cost (marks_of (map string_bytes names.items) held.now)
-        (offers_of prices.now (map string_bytes names.items))) }
+        (offers_of (view prices.now) (map string_bytes names.items))) }
 {
     let question = question_of(alloc, held, &names, prices)?;
     let marks = marks_of(alloc, &names, held)?;
@@ -110,13 +111,13 @@ fn asked_by(
 /// What files ask that hold this, at prices with one of `rw,rw`. F16 where there are more than 65,536 sites; or F19.
 pub(crate) fn asked_of(alloc: Global, held: &[Held], prices: &SitePrices) -> Result<Asked, Fault>
     requires sound { All (λ h. IsSound h.asked) held.now }
-    requires top { IsSome (price_of prices.now kind.RwRw) }
+    requires top { IsSome (price_of (view prices.now) kind.RwRw) }
     ensures names { IfOk result (λ asked. map string_bytes asked.names ≡ names_in held.now) }
-    ensures value { IfOk result (λ asked. asked.question ≡ asked_of prices.now held.now) }
+    ensures value { IfOk result (λ asked. asked.question ≡ asked_of (view prices.now) held.now) }
     ensures question { IfOk result (λ asked. IsQuestion asked.question) }
     ensures marks { IfOk result (λ asked. asked.marks ≡ marks_of (names_in held.now) held.now) }
     ensures written { IfOk result (λ asked. asked.written
-        ≡ written_cost (marks_of (names_in held.now) held.now) (offers_of prices.now (names_in held.now))) }
+        ≡ written_cost (marks_of (names_in held.now) held.now) (offers_of (view prices.now) (names_in held.now))) }
     ensures err { IfErr result (λ f. f ≢ Memory → (f ≡ NodeLimit) × (most_sites < length (names_in held.now))) }
 {
     let names = names_in(alloc, held)?;

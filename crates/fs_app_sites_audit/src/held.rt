@@ -1,15 +1,16 @@
 //! What a file holds: its test without the FENCEs at copies of sites, the copies, and what is written at them.
 
-ghost use Rattle.std.specs.Prelude.{◌≡◌, ◌≢◌, All, IfOk, IfErr, map};
+ghost use Rattle.std.specs.Prelude.{◌≡◌, ◌≢◌, [], All, IfOk, IfErr, map};
 ghost use Rattle.std.specs.Arc.{arc_value};
 ghost use Rattle.std.specs.List.{enumerate_from, slice_index_or};
 ghost use Rattle.fs_kinds.specs.declared.fault.Fault.TheVariants.{Memory};
 ghost use Rattle.fs_litmus_sites.specs.SiteLabels.{all_of};
 ghost use Rattle.fs_litmus_sites.specs.Sited.{IsSiteFault};
+ghost use Rattle.fs_model.specs.Test.{IsTest};
 ghost use Rattle.fs_model_in_place.specs.InPlace.{written_at};
 ghost use Rattle.fs_app_sites.specs.Sites.{IsFileFault, IsSound, copy_value};
-ghost use Rattle.fs_app_sites_audit.specs.Copies.{AreHeld, IsFilesFault, IsHeld, IsWritten, LabelsStandIn};
-ghost use Rattle.fs_app_sites_audit.specs.Copies.{line_at, written_of};
+ghost use Rattle.fs_app_sites_audit.specs.Copies.{AreHeld, Holds, IsFilesFault, IsHeld, IsWritten, LabelsStandIn};
+ghost use Rattle.fs_app_sites_audit.specs.Copies.{emptied_at, line_at, written_of};
 
 use crate::emptied::emptied_at;
 use fs_app_audit_text::memory_kind;
@@ -17,7 +18,7 @@ use fs_app_sites::{File, SiteCopy, read_copies};
 use fs_instr::Instr;
 use fs_kinds::{Fault, Kind, List, Slot};
 use fs_litmus::{Code, Test, read_lines, read_test};
-use fs_litmus_sites::read_site_labels;
+use fs_litmus_sites::{SiteLabel, read_site_labels};
 use std::alloc::{AllocError, Global};
 use std::marker::Model;
 use std::sync::Arc;
@@ -121,17 +122,24 @@ fn written_of(
     Ok(written)
 }
 
+/// The lines in which the labels stand.
+fn label_lines(alloc: Global, labels: &[SiteLabel<'_>]) -> Result<Vec<usize>, AllocError>
+    ensures { IfOk result (λ lines. lines.items ≡ map (λ label. label.line) (all_of labels.now)) }
+{
+    let mut lines = Vec::new(alloc);
+    for label in labels {
+        lines.push(label.line)?;
+    }
+    Ok(lines)
+}
+
 /// The lines in which the site labels of a file stand.
-fn label_lines(alloc: Global, bytes: &[u8]) -> Result<Vec<usize>, Fault>
+fn read_label_lines(alloc: Global, bytes: &[u8]) -> Result<Vec<usize>, Fault>
     ensures ok { IfOk result (λ lines. LabelsStandIn bytes.now lines.items) }
     ensures err { IfErr result (λ f. f ≢ Memory → IsSiteFault bytes.now f) }
 {
     let labels = read_site_labels(alloc, bytes)?;
-    let mut lines = Vec::new(alloc);
-    for label in &labels {
-        lines.push(label.line)?;
-    }
-    Ok(lines)
+    Ok(label_lines(alloc, &labels)?)
 }
 
 /// What is written at these copies in a file.
@@ -145,7 +153,7 @@ fn read_written(
     ensures err { IfErr result (λ f. f ≢ Memory → IsSiteFault bytes.now f) }
 {
     let lines = read_lines(alloc, bytes)?;
-    let labels = label_lines(alloc, bytes)?;
+    let labels = read_label_lines(alloc, bytes)?;
     let written = written_of(alloc, codes, copies, &lines, &labels)?;
     Ok(List::new(written))
 }

@@ -1,8 +1,7 @@
 //! What is advised of the FENCEs of each site, in lines.
 
-ghost use Rattle.std.specs.Prelude.{◌≡◌, ◌++◌, None, Some, IfOk, OnOk};
+ghost use Rattle.std.specs.Prelude.{◌≡◌, ◌++◌, Some, IfOk, OnOk};
 ghost use Rattle.std.specs.List.{flat_map};
-ghost use Rattle.fs_kinds.specs.Kind.{all_kinds};
 ghost use Rattle.fs_app_audit.specs.Advice.{changes_nothing, graded};
 ghost use Rattle.fs_app_sites_audit.specs.Lines.{advice_for, advised, are_content, fence_line, is_kept, is_same_row};
 ghost use Rattle.fs_app_sites_audit.specs.Lines.{lines_of, rows_of, site_lines, told, with_mark, with_row};
@@ -136,9 +135,10 @@ fn push_told(
 ) -> Result<(), AllocError>
     ensures { OnOk result (lines.new.items ≡ lines.old.items ++ told site own advice rows.items) }
 {
-    if let Some(advice) = advice
-        && !rows.is_empty()
-    {
+    let Some(advice) = advice else {
+        return Ok(());
+    };
+    if !rows.is_empty() {
         lines.push(Line {
             site,
             fence: own,
@@ -164,6 +164,24 @@ fn push_line(
     push_told(site, own, advice_for(wanted, own), rows, lines)
 }
 
+/// Appends the lines of the copies of the site that have FENCEs of these kinds.
+fn push_kinds(
+    alloc: Global,
+    marks: &[Mark],
+    site: usize,
+    wanted: Option<Kind>,
+    kinds: &[Kind],
+    lines: &mut Vec<Line>,
+) -> Result<(), AllocError>
+    ensures { OnOk result (lines.new.items
+        ≡ lines.old.items ++ flat_map (λ kind. fence_line marks.now site wanted (Some kind)) kinds.now) }
+{
+    for kind in kinds {
+        push_line(alloc, marks, site, wanted, Some(*kind), lines)?;
+    }
+    Ok(())
+}
+
 /// Appends the lines of the site: of copies without a fence first, then by kind.
 fn push_site(
     alloc: Global,
@@ -172,14 +190,10 @@ fn push_site(
     wanted: Option<Kind>,
     lines: &mut Vec<Line>,
 ) -> Result<(), AllocError>
-    ensures { OnOk result (lines.new.items ≡ lines.old.items ++ (fence_line marks.now site wanted None
-        ++ flat_map (λ kind. fence_line marks.now site wanted (Some kind)) all_kinds)) }
+    ensures { OnOk result (lines.new.items ≡ lines.old.items ++ site_lines marks.now site wanted) }
 {
     push_line(alloc, marks, site, wanted, None, lines)?;
-    for kind in &Kind::ALL {
-        push_line(alloc, marks, site, wanted, Some(*kind), lines)?;
-    }
-    Ok(())
+    push_kinds(alloc, marks, site, wanted, &Kind::ALL, lines)
 }
 
 /// The lines of so many sites, of which what is written is what is advised, or the fences of these entries. Each copy is

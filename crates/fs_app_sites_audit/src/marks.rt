@@ -2,7 +2,7 @@
 
 ghost use Rattle.std.specs.Prelude.{◌≡◌, ◌++◌, ◌==◌, IfOk, OnOk, map, option_map, string_bytes};
 ghost use Rattle.std.specs.List.{find};
-ghost use Rattle.fs_app_sites_audit.specs.Marks.{agree, is_same_fence, marked, marks_of, own_fence};
+ghost use Rattle.fs_app_sites_audit.specs.Marks.{agree, file_marks, is_same_fence, marked, marks_of, own_fence};
 
 use crate::held::{Held, Written};
 use fs_app_sites::places_of;
@@ -58,6 +58,21 @@ fn push_marks(
     Ok(())
 }
 
+/// Appends the copies of a file, which has this number and whose sites have some of these names.
+fn push_file(
+    alloc: Global,
+    names: &[String],
+    file: usize,
+    held: &Held,
+    marks: &mut Vec<Mark>,
+) -> Result<(), AllocError>
+    ensures { OnOk result (marks.new.items
+        ≡ marks.old.items ++ file_marks (map string_bytes names.now) (file, held.now)) }
+{
+    let places = places_of(alloc, names, &held.copies)?;
+    push_marks(file, &places, &held.written, marks)
+}
+
 /// The copies of the sites of these names in files that hold this, in the order of the files and then of their slots.
 /// Each copy's name is looked for in all names. Fails only for want of memory.
 pub(crate) fn marks_of(
@@ -68,9 +83,8 @@ pub(crate) fn marks_of(
     ensures { IfOk result (λ marks. marks.items ≡ marks_of (map string_bytes names.now) held.now) }
 {
     let mut marks = Vec::new(alloc);
-    for (file, held) in held.iter().enumerate() {
-        let places = places_of(alloc, names, &held.copies)?;
-        push_marks(file, &places, &held.written, &mut marks)?;
+    for (file, here) in held.iter().enumerate() {
+        push_file(alloc, names, file, here, &mut marks)?;
     }
     Ok(marks)
 }

@@ -120,7 +120,7 @@ fn none_value(
     let witness = witness_value(alloc, &witness.choices, &witness.order)?;
     json!(in alloc; {
         "answer": "audit",
-        "cheapest": Value::Null,
+        "cheapest": null,
         "file": name,
         "verdict": kind_text(kind),
         "witness": witness,

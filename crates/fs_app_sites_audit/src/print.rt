@@ -109,6 +109,21 @@ pub(crate) fn file_name(files: &[File], number: usize) -> &str
     }
 }
 
+/// The name of the site, padded.
+fn site_cell(alloc: Global, names: &[String], site: usize) -> Result<String, AllocError>
+    ensures { IfOk result (λ text. string_bytes text ≡ padded (width (map string_bytes names.now))
+        (slice_index_or (map string_bytes names.now) site [])) }
+{
+    padded(alloc, width(names), site_name(names, site))
+}
+
+/// The letters of the FENCE, padded.
+fn fence_cell(alloc: Global, fence: Option<Kind>) -> Result<String, AllocError>
+    ensures { IfOk result (λ text. string_bytes text ≡ padded 5 (fence_text fence)) }
+{
+    padded(alloc, FENCE_WIDTH, fence_text(fence))
+}
+
 /// Appends the file and the line.
 fn write_row(alloc: Global, files: &[File], row: &Row, text: &mut String) -> Result<(), AllocError>
     ensures { OnOk result (string_bytes text.new ≡ string_bytes text.old ++ row_text files.now row.now) }
@@ -152,8 +167,8 @@ fn line_text(
 ) -> Result<String, AllocError>
     ensures { IfOk result (λ text. string_bytes text ≡ line_text files.now (map string_bytes names.now) line.now) }
 {
-    let site = padded(alloc, width(names), site_name(names, line.site))?;
-    let fence = padded(alloc, FENCE_WIDTH, fence_text(line.fence))?;
+    let site = site_cell(alloc, names, line.site)?;
+    let fence = fence_cell(alloc, line.fence)?;
     let advice = advice_cell(alloc, line.advice)?;
     let rows = rows_text(alloc, files, line.rows.as_slice())?;
     format!(in alloc;

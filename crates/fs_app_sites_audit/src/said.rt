@@ -1,27 +1,26 @@
 //! What is said of files as they are written.
 
-ghost use Rattle.std.specs.Prelude.{◌≡◌, ◌≢◌, IfOk, IfErr};
+ghost use Rattle.std.specs.Prelude.{◌≡◌, ◌≢◌, ℕ, List, Option, IfOk, IfErr};
 ghost use Rattle.std.specs.List.{list_any};
 ghost use Rattle.fs_kinds.specs.declared.fault.Fault.TheVariants.{Memory};
+ghost use Rattle.fs_model.specs.Witness.{Witness};
 ghost use Rattle.fs_app_test.specs.Status.{is_kind};
-ghost use Rattle.fs_app_test.specs.Verdicts.{IsFirstTestFault};
-ghost use Rattle.fs_app_sites_audit.specs.Audited.{AreSaid, IsSaidFault, IsSaidOf, together};
+ghost use Rattle.fs_app_test.specs.Verdicts.{IsFirstTestFault, IsTested};
+ghost use Rattle.fs_app_sites_audit.specs.Audited.{AreSaid, IsSaidFault, together};
 
+use fs_app_audit::read_shared;
 use fs_app_sites::File;
 use fs_app_test::{Kind, judge_test};
 use fs_kinds::Fault;
-use fs_litmus::read_test;
 use std::alloc::Global;
-use std::sync::Arc;
 
 /// What is said of the bytes of a file.
 fn said_of(alloc: Global, bytes: &[u8]) -> Result<Kind, Fault>
-    ensures ok { IfOk result (IsSaidOf bytes.now) }
-    ensures err { IfErr result (IsFirstTestFault bytes.now) }
+    ensures ok { IfOk result (λ kind. (why : List ℕ) × (witness : Option Witness) × IsTested bytes.now kind why witness) }
+    ensures err { IfErr result (λ f. f ≢ Memory → IsFirstTestFault bytes.now f) }
 {
-    let test = read_test(alloc, bytes)?;
-    let test = Arc::new(alloc, test)?;
-    let said = judge_test(alloc, &test)?;
+    let own = read_shared(alloc, bytes)?;
+    let said = judge_test(alloc, &own)?;
     Ok(said.kind)
 }
 
