@@ -25,29 +25,27 @@ row_value files row = object (members_of (
 
 abbrev pub line_value : List File → (names : List (List ℕ)) → Line → Data
 line_value files names l = object (members_of (
-    (codes "advice", string (advice_text FenceTso l.advice))
-    ∷ (codes "fence", string (fence_text l.fence))
-    ∷ (codes "places", array_of (map (row_value files) l.rows))
-    ∷ (codes "site", string (slice_index_or names l.site [])) ∷ []))
+    (codes "places", array_of (map (row_value files) l.rows))
+    ∷ (codes "says", string (advice_text FenceTso l.advice))
+    ∷ (codes "site", string (slice_index_or names l.site []))
+    ∷ (codes "written", string (fence_text l.fence)) ∷ []))
 
 abbrev pub lines_value : List File → (names : List (List ℕ)) → List Line → Data
 lines_value files names lines = array_of (map (line_value files names) lines)
 
 -- ---- the whole
 
-abbrev pub fenced_value : (cheapest : ℕ) → (sites : Data) → Kind → (written : Option ℕ) → Data
-fenced_value cheapest sites kind written = object (members_of (
-    (codes "answer", string (codes "audit"))
-    ∷ (codes "cheapest", number cheapest)
-    ∷ (codes "sites", sites)
+abbrev pub fenced_value : (cheapest : ℕ) → (lines : Data) → Kind → (written : Option ℕ) → Data
+fenced_value cheapest lines kind written = object (members_of (
+    (codes "cheapest", number cheapest)
+    ∷ (codes "lines", lines)
     ∷ (codes "verdict", string (kind_text kind))
     ∷ (codes "written", number_or_null written) ∷ []))
 
 -- where no fences rule the outcomes out
 abbrev pub none_value : (name : List ℕ) → Witness → Kind → (written : Option ℕ) → Data
 none_value name w kind written = object (members_of (
-    (codes "answer", string (codes "audit"))
-    ∷ (codes "cheapest", null)
+    (codes "cheapest", null)
     ∷ (codes "file", string name)
     ∷ (codes "verdict", string (kind_text kind))
     ∷ (codes "witness", witness_value w)

@@ -63,10 +63,10 @@ fn line_value(
     let advice = said_text(alloc, line.advice)?;
     let places = rows_value(alloc, files, line.rows.as_slice())?;
     json!(in alloc; {
-        "advice": advice.as_str(),
-        "fence": fence_text(line.fence),
         "places": places,
+        "says": advice.as_str(),
         "site": site_name(names, line.site),
+        "written": fence_text(line.fence),
     })
 }
 
@@ -92,16 +92,15 @@ fn lines_value(
 fn fenced_value(
     alloc: Global,
     cheapest: u64,
-    sites: Value,
+    lines: Value,
     kind: Verdict,
     written: Option<u64>,
 ) -> Result<Value, AllocError>
-    ensures { IfOk result (λ value. view value ≡ fenced_value cheapest (view sites) kind written) }
+    ensures { IfOk result (λ value. view value ≡ fenced_value cheapest (view lines) kind written) }
 {
     json!(in alloc; {
-        "answer": "audit",
         "cheapest": cheapest,
-        "sites": sites,
+        "lines": lines,
         "verdict": kind_text(kind),
         "written": number_or_null(written),
     })
@@ -119,7 +118,6 @@ fn none_value(
 {
     let witness = witness_value(alloc, &witness.choices, &witness.order)?;
     json!(in alloc; {
-        "answer": "audit",
         "cheapest": null,
         "file": name,
         "verdict": kind_text(kind),
@@ -142,8 +140,8 @@ fn audit_value(
     let written = findings.written;
     match &findings.found {
         Answer::Fenced { cost, .. } => {
-            let sites = lines_value(alloc, files, &findings.names, lines)?;
-            fenced_value(alloc, *cost, sites, kind, written)
+            let lines = lines_value(alloc, files, &findings.names, lines)?;
+            fenced_value(alloc, *cost, lines, kind, written)
         }
         Answer::None { part, witness } => {
             none_value(alloc, file_name(files, *part), witness, kind, written)
