@@ -68,3 +68,11 @@ pub inserted : {S : Type 0} (f : S → Copy) (xs : List S) (i : ℕ) (y : S) →
 inserted f xs i y =
     map-append f (take i xs) (y ∷ drop i xs) ∙ ap (λ cs. cs ++ f y ∷ map f (drop i xs)) (sym (take-map f i xs))
     ∙ ap (λ cs. take i (map f xs) ++ f y ∷ cs) (sym (drop-map f i xs))
+
+-- where the place was found among the copies as they were passed on
+pub put-in : {S : Type 0} (f : S → Copy) (prefix : List ℕ) (s : Slot) (xs passed new : List S) (i : ℕ) (y : S) → new ≡ insert xs i y
+    → f y ≡ own_copy prefix s → passed ≡ xs → with_slot prefix (map f passed) s ≡ insert (map f passed) i (own_copy prefix s)
+    → map f new ≡ with_slot prefix (map f xs) s
+put-in f prefix s xs passed new i y made own same is =
+    ap (map f) made ∙ inserted f xs i y ∙ ap (insert (map f xs) i) own
+    ∙ ap (λ ys. insert (map f ys) i (own_copy prefix s)) (sym same) ∙ sym is ∙ ap (λ ys. with_slot prefix (map f ys) s) same

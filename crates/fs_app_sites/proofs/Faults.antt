@@ -31,7 +31,7 @@ read-fault bytes f fault bad n =
 -- the value that was read is no object of prices
 pub refused-fault : (bytes : List ℕ) (value : Data) (r : Bool) → read bytes ≡ Some value → Decides r (IsPriceValue value) → r ≡ false
     → IsSitePricesFault bytes BadPrices
-refused-fault bytes value r reads decides no =
+refused-fault bytes value r reads decides refused =
     no_prices (λ d have.
     let again = have.reads in
     let same : d ≡ value = cc in

@@ -1,5 +1,5 @@
 -- The line of a site by its name: a name is cut at its first colon, and that of a slot has one.
-use Rattle.std.proofs.Common.{◌≡◌, ◌≢◌, ◌<◌, ◌+◌, ◌==◌, ℕ, zero, suc, nat_lt, not, Bool, true, false, Option, None, Some, List, [], ◌∷◌, ◌++◌, codes, length, get_or, take, drop, cond, refl, sym, ap, subst, ◌∙◌, arith}
+use Rattle.std.proofs.Common.{◌≡◌, ◌≢◌, ◌<◌, ◌+◌, ◌==◌, ℕ, zero, suc, nat_lt, not, Bool, true, false, Option, None, Some, List, [], ◌∷◌, ◌++◌, codes, length, get_or, take, drop, cond, refl, sym, ap, subst, ◌∙◌, arith, append_assoc}
 use Rattle.std.specs.List.{after_first, before_first, position_or_len, prefix_len}
 use Rattle.std.specs.Fmt.{decimal}
 use Rattle.std.proofs.lemmas.Bool.Decides.{nat_tests}
@@ -39,6 +39,13 @@ is-cut name parts split =
 pub text-alone : (is_alone : Bool) (name hart at : List ℕ) → is_alone ≡ true → IsCut name hart at
     → place_text is_alone name ≡ codes "fence " ++ hart ++ codes " " ++ at
 text-alone is_alone name hart at alone cut = rw (alone, cut.has, cut.before, cut.after) refl
+
+-- as it is written
+pub text-written : (is_alone : Bool) (name hart at : List ℕ) → is_alone ≡ true → IsCut name hart at
+    → place_text is_alone name ≡ codes "fence " ++ (hart ++ 32 ∷ at)
+text-written is_alone name hart at alone cut =
+    text-alone is_alone name hart at alone cut ∙ append_assoc (codes "fence " ++ hart) (codes " ") at
+    ∙ append_assoc (codes "fence ") hart (32 ∷ at)
 
 -- ---- the name of a slot
 
