@@ -57,7 +57,7 @@ fn judge(
     ensures answer { IfOk result (λ output. (is_free : Bool) (bytes : List ℕ)
         → AreSites is_free bytes test.now sites.now.places (map string_bytes sites.now.names)
         → IsSitesOrderAnswer is_free bytes witness.now (map string_bytes words.now)
-            (string_bytes output.text) output.status) }
+        (string_bytes output.text) output.status) }
     ensures fault { IfErr result (λ f. (is_free : Bool) (bytes : List ℕ)
         → AreSites is_free bytes test.now sites.now.places (map string_bytes sites.now.names)
         → IsFirstSitesOrderFault is_free bytes witness.now (map string_bytes words.now) f) }

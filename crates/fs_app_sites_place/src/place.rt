@@ -117,12 +117,12 @@ fn place_words(
     requires few { length sites.now.names ≤ most_sites }
     ensures text { IfOk result (λ output. (is_free : Bool) (bytes : List ℕ) (prices : Option (List ℕ))
         → IsPlaceAsked is_free bytes prices test sites.now.places (map string_bytes sites.now.names)
-            (option_copied offers.entry)
+        (option_copied offers.entry)
         → IsSitesText is_free bytes prices (map string_bytes words.now) (string_bytes output.text)) }
     ensures status { IfOk result (λ output. output.status ≡ Status.Success) }
     ensures fault { IfErr result (λ f. (is_free : Bool) (bytes : List ℕ) (prices : Option (List ℕ))
         → IsPlaceAsked is_free bytes prices test sites.now.places (map string_bytes sites.now.names)
-            (option_copied offers.entry)
+        (option_copied offers.entry)
         → IsFirstSitesPlaceFault is_free bytes prices (map string_bytes words.now) f) }
 {
     let kinds = read_kinds(alloc, &sites.names, words)?;
