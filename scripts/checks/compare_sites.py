@@ -11,7 +11,7 @@ named must be the first whose outcome is allowed with `rw,rw` at every site, and
 `scripts/check_certificate.py --sites`. Of others, made of it with a change or two, the two must say the same. And where
 FENCEs are put behind the labels, most as the answer has them, `audit --sites` must say of them what the list does.
 
-Of each test of examples/ without such labels `--sites --free` must change no byte of the answer."""
+Of each test of examples/, which have no such labels, `--sites --free` must change no byte of the answer."""
 import collections
 import functools
 import glob
@@ -231,15 +231,11 @@ class Audited:
                 kinds[hart, at], self.kinds[name][kind][f"{file}:{row}"] = kind, None
             self.texts[file] = test.labelled(kinds)
 
-    def written(self):
-        """The kind that all copies of each site have; nothing where copies differ."""
-        if all(len(kinds) == 1 for kinds in self.kinds.values()):
-            return {name: next(iter(kinds)) for name, kinds in self.kinds.items()}
-        return None
-
     def wanted(self):
         """The lines that are to be printed, but for an execution, and the status."""
-        best, names, own, cost = self.best, self.question.names, self.written(), self.question.cost
+        best, names, cost = self.best, self.question.names, self.question.cost
+        is_same = all(len(kinds) == 1 for kinds in self.kinds.values())
+        own = {name: next(iter(kinds)) for name, kinds in self.kinds.items()} if is_same else None
         verdicts = {verdict_of(text.encode(), ONES)[0] for text in self.texts.values()}
         verdict = next(it for it in ["allowed", "forbidden", "vacuous"] if it in verdicts)
         first = f"{verdict} as written, {'copies differ' if own is None else cost(own)}; "
@@ -289,18 +285,10 @@ def compare(run, number, certificates):
 
 
 def compare_alone(run, path):
-    """Is the answer of a test without labels that name sites that of its slots?"""
+    """Is the answer of a test, which has no labels that name sites, that of its slots?"""
     for prices in [LINUX, f"{run.folder}/weights"]:
         wanted = rvfence("solve", path, prices, "-q")
         run.expect(f"{path} at {prices} as sites", wanted, rvfence("solve", path, prices, "-q", "--sites", "--free"))
-
-
-def has_labels(path):
-    """Has a test labels that name sites?"""
-    try:
-        return bool(model.places_of(model.read(path, model.test_of)))
-    except model.Unreadable:
-        return False
 
 
 def check(run):
@@ -310,4 +298,4 @@ def check(run):
     weights = {"weights": {f"P{hart}:{at}": (hart + at) % 4 for hart in range(4) for at in range(10)}}
     written(f"{run.folder}/weights", json.dumps({**json.loads(read(LINUX)), **weights}))
     paths = [path for folder in ["", "idioms/", "tests/"] for path in sorted(glob.glob(f"{EXAMPLES}/{folder}*.litmus"))]
-    side_by_side(lambda path: compare_alone(run, path), [path for path in paths if not has_labels(path)])
+    side_by_side(lambda path: compare_alone(run, path), paths)
