@@ -177,7 +177,7 @@ def is_enough(kind, other):
 def compare_execution(run, name, question, lines):
     """Is the last of these lines an execution of the first test that has one?"""
     file, words = question.first_allowed()
-    execution = written(f"{run.folder}/execution", lines.pop())
+    execution = written(f"{run.folder}/execution", lines.pop() if lines else "")
     run.expect(f"the execution of {name}", YES, rvfence("order", file, execution, *words, *question.options))
     return file
 
@@ -198,7 +198,9 @@ def compare_answer(run, name, question, placed, found):
 def compare_certificates(run, name, question, files, found, certificates):
     """Do both checkers accept the certificate of this answer, and say the same of others that are made of it?"""
     path, judge = f"{run.folder}/certificate", SitesJudge(files[:-1], files[-1], question.is_free)
-    run.expect(f"{name}, with --cert", found, rvfence("solve", *files, *question.options, "-q", "--cert", path))
+    said = rvfence("solve", *files, *question.options, "-q", "--cert", path)
+    if not run.expect(f"{name}, with --cert", found, said) or said.status == 2:
+        return
     wanted = Said(f"yes\n{found.out}", "", 0)
     run.expect(f"check of {name}", wanted, rvfence("check", *files, path, *question.options))
     run.expect(f"check_certificate.py of {name}", wanted, judge.verdict(read(path)))
