@@ -32,13 +32,20 @@ NAMES = ["lock", "un_lock", "wmb", "r2d"]
 LINUX = f"{EXAMPLES}/prices-linux.json"
 ONES = model.prices_of(b'{"rw,rw":1}')
 MOST_PLACEMENTS = 130
+MOST_RUNS = 300
 POOL = 20           # ten questions have so many tests in common, with other labels
 MANGLED = 6         # certificates that are made of each
 
 
 @functools.lru_cache(POOL)
 def made_columns(number):
-    return Columns(Maker(number).make()[0].decode())
+    """The test of a number, or of another where its harts have so many runs that a list would take long."""
+    text = Maker(number).make()[0]
+    try:
+        is_small = sum(map(len, model.all_runs(model.test_of(text)))) <= MOST_RUNS
+    except model.Fault:
+        is_small = False
+    return Columns(text.decode()) if is_small else made_columns(number + 10 ** 6)
 
 
 class Test:
@@ -91,11 +98,8 @@ class Test:
         return self.allows(*[(name, kinds[name]) for name in sorted(set(self.places.values()))])
 
     def is_fit(self, chance):
-        """Can its candidates be listed, and, but for some, do fences rule its outcome out?"""
-        try:
-            return not self.is_allowed(dict.fromkeys(NAMES, "rw,rw")) or chance.random() < 0.25
-        except model.Fault:
-            return False
+        """But for some, do fences rule its outcome out?"""
+        return not self.is_allowed(dict.fromkeys(NAMES, "rw,rw")) or chance.random() < 0.25
 
     def free_slots(self, prefix):
         """Makes each slot without a label a site of its own."""
