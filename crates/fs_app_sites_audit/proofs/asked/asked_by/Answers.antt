@@ -13,9 +13,9 @@ written_cost-written-requires c =
     let names = map string_bytes c.deref.result.now in
     let offers = c.as_slice.ensures.value ∙ ap (λ (q : Question). q.offers) (c.question.view_is ∙ c.in_ok-question.ensures) in
     let long = ap length offers
-        ∙ length-map (enumerate_from 0 names) (offer_of (view c.args.prices.now))
-        ∙ length-enumerate_from 0 names
-        ∙ length-map c.deref.result.now string_bytes
-        ∙ ap length c.deref.ensures.value in
+    ∙ length-map (enumerate_from 0 names) (offer_of (view c.args.prices.now))
+    ∙ length-enumerate_from 0 names
+    ∙ length-map c.deref.result.now string_bytes
+    ∙ ap length c.deref.ensures.value in
     let most = c.requires in
     omega (arith, long, most)

@@ -12,6 +12,6 @@ pub returns-clause-test : goal.returns-clause-test
 returns-clause-test c =
     let copies = map copy_value c.args.copies.now in
     let made = c.new.ensures
-        ∙ c.in_ok-codes.ensures
-        ∙ ap (λ codes. map (followed_code (is_copied copies) []) (enumerate_from 0 codes)) c.as_slice.ensures in
+    ∙ c.in_ok-codes.ensures
+    ∙ ap (λ codes. map (followed_code (is_copied copies) []) (enumerate_from 0 codes)) c.as_slice.ensures in
     subst (λ (codes : List (List Instr)). IsTest (record c.args.test { codes = codes })) (sym made) (emptied_test copies c.args.test c.requires)

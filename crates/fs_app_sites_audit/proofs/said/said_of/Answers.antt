@@ -17,7 +17,8 @@ returns-in_err-said-clause-err c =
 pub returns-clause-ok : goal.returns-clause-ok
 returns-clause-ok c =
     let said = c.in_ok-said.said in
-    let told = c.in_ok-said.ensures.ok in
-    (string_bytes said.why,
-    witness_in said.witness,
-    record { the_test = _; reads = c.in_ok-own.ensures.ok; listed = told.listed; says = told.says })
+    let told = c.in_ok-said.ensures.ok in (
+      string_bytes said.why,
+      witness_in said.witness,
+      record { the_test = _; reads = c.in_ok-own.ensures.ok; listed = told.listed; says = told.says },
+    )
