@@ -1,7 +1,7 @@
 //! What is advised of the FENCEs of each site, in lines.
 
 ghost use Rattle.std.specs.Prelude.{◌≡◌, ◌++◌, Some, IfOk, OnOk};
-ghost use Rattle.std.specs.List.{flat_map};
+ghost use Rattle.std.specs.List.{flat_map, list_any};
 ghost use Rattle.fs_app_audit.specs.Advice.{changes_nothing, graded};
 ghost use Rattle.fs_app_sites_audit.specs.Lines.{advice_for, advised, are_content, fence_line, is_kept, is_same_row};
 ghost use Rattle.fs_app_sites_audit.specs.Lines.{lines_of, rows_of, site_lines, told, with_mark, with_row};
@@ -82,11 +82,18 @@ fn is_same_row(row: Row, other: Row) -> bool
     row.file == other.file && row.line == other.line
 }
 
+/// Is it one of the rows?
+fn has_row(rows: &[Row], row: Row) -> bool
+    ensures { result ≡ list_any (is_same_row row) rows.now }
+{
+    rows.iter().any(|other| is_same_row(row, *other))
+}
+
 /// Appends the row, unless it is there.
 fn add_row(row: Row, rows: &mut Vec<Row>) -> Result<(), AllocError>
     ensures { OnOk result (rows.new.items ≡ with_row rows.old.items row) }
 {
-    if !rows.iter().any(|other| is_same_row(row, *other)) {
+    if !has_row(rows, row) {
         rows.push(row)?;
     }
     Ok(())

@@ -2,6 +2,7 @@ use Rattle.std.proofs.Common.{arith, subst, sym, take, ℕ, List, Option}
 use Rattle.fs_model.specs.Witness.{Witness}
 use Rattle.fs_app_place_order.proofs.Faults.{IfErr-handed}
 use Rattle.fs_app_test.specs.Verdicts.{IsFirstTestFault, IsTested}
+use Rattle.fs_app_test.specs.declared.said.Kind.{Kind}
 use Rattle.fs_app_sites_audit.specs.Audited.{AreSaid, IsSaidOf}
 use Rattle.fs_app_sites_audit.proofs.Reading.{later_fault, own_fault, read_more}
 use Rattle.fs_app_sites_audit.proofs.said.said_of_files.Goals as goal
@@ -18,7 +19,7 @@ loop-file-preserved c =
     let is = subst (λ bytes. (why : List ℕ) × (witness : Option Witness) × IsTested bytes c.in_ok-said_of.field-0 why witness)
     c.deref.ensures.value c.in_ok-said_of.ensures.ok in
     record {
-      read = subst (AreSaid (take _ c.args.files.now)) (sym c.in_ok-push.ensures.items)
+      read = subst (AreSaid (take _ c.args.files.now)) (sym {A = List Kind} c.in_ok-push.ensures.items)
           (read_more IsSaidOf (λ file. IsFirstTestFault file.bytes.items) c.args.files.now c.loop-file.file-index c.file-item.result (omega arith) c.file-item.is _ _ c.loop-file.invariant.read is);
       left = λ f fault. c.loop-file.invariant.left f
           (later_fault IsSaidOf (λ file. IsFirstTestFault file.bytes.items) c.args.files.now c.loop-file.file-index c.file-item.result (omega arith) c.file-item.is _ f is fault);
