@@ -54,16 +54,21 @@ pub(crate) fn answer_sites<'a, R: Files + Input + Eprint + AllocGlobal + Threads
     let sources = sources(rt, &sites.files)?;
     let mut blamed = Papers::new(rt.alloc());
     match solved(rt, sites, &sources, &papers.prices.bytes, &mut blamed) {
-        Ok(solved) => Ok(noted(rt, voice, solved)),
+        Ok(solved) => Ok(noted(rt, sites.free, voice, solved)),
         Err(fault) => failed(rt, sites.json, fault, voice, &blamed),
     }
 }
 
-/// The output. That no label names a site is said on standard error.
-fn noted<R: Files + Eprint + AllocGlobal>(rt: &R, voice: Voice, solved: Solved) -> Output
+/// The output. That no label names a site is said on standard error, unless slots are sites too.
+fn noted<R: Files + Eprint + AllocGlobal>(
+    rt: &R,
+    is_free: bool,
+    voice: Voice,
+    solved: Solved,
+) -> Output
     ensures { result ≡ solved.output }
 {
-    if solved.sites == 0 && voice.notes {
+    if solved.sites == 0 && voice.notes && !is_free {
         tell(rt, &NO_SITE);
     }
     solved.output
