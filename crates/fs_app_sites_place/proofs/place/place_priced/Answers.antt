@@ -19,7 +19,7 @@ returns-in_err-offers-clause-fault c =
 
 pub returns-clause-text : goal.returns-clause-text
 returns-clause-text c =
-    let table = option_map view (option_copied c.args.prices.entry) in
+    let table = option_map view (option_copied c.args.prices) in
     let offered = c.as_ref.ensures.value ∙ c.in_ok-offers.ensures.ok ∙ ap (λ ns. offers_given table (map string_bytes ns)) c.deref.ensures in
     IfOk-weaker c.place_words.result _ _
     (λ output says given priced. says c.args.is_free c.args.test.now given
@@ -28,7 +28,7 @@ returns-clause-text c =
 
 pub returns-clause-fault : goal.returns-clause-fault
 returns-clause-fault c =
-    let table = option_map view (option_copied c.args.prices.entry) in
+    let table = option_map view (option_copied c.args.prices) in
     let offered = c.as_ref.ensures.value ∙ c.in_ok-offers.ensures.ok ∙ ap (λ ns. offers_given table (map string_bytes ns)) c.deref.ensures in
     IfErr-weaker c.place_words.result _ _
     (λ f says given priced. says c.args.is_free c.args.test.now given

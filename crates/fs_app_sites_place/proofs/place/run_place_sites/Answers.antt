@@ -13,12 +13,12 @@ returns-in_err-prices-clause-fault c =
 
 pub returns-clause-text : goal.returns-clause-text
 returns-clause-text c =
-    let bytes = option_copied c.args.prices.entry in
+    let bytes = option_copied c.args.prices in
     let priced = subst (λ given. AreGivenPrices bytes (option_map view given)) (sym c.as_ref.ensures.value) c.in_ok-prices.ensures.ok in
     IfOk-weaker c.place_priced.result _ _ (λ output says. says bytes priced) c.place_priced.ensures.text
 
 pub returns-clause-fault : goal.returns-clause-fault
 returns-clause-fault c =
-    let bytes = option_copied c.args.prices.entry in
+    let bytes = option_copied c.args.prices in
     let priced = subst (λ given. AreGivenPrices bytes (option_map view given)) (sym c.as_ref.ensures.value) c.in_ok-prices.ensures.ok in
     IfErr-weaker c.place_priced.result _ _ (λ f says. says bytes priced) c.place_priced.ensures.fault
