@@ -14,4 +14,4 @@ returns-then-audit g c =
     IfOk-weaker c.answer_objects.result _ _ (λ output h. objects c.if-audit.true h) c.answer_objects.ensures
 
 pub returns : goal.returns
-returns g c = IfOk-weaker c.answer_files.result _ _ (λ output h. several c.if-audit-2.false h) c.answer_files.ensures
+returns g c = IfOk-weaker c.answer_files.result _ _ (λ output h. several (sym c.wants_one.ensures ∙ c.if-wants_one.false) h) c.answer_files.ensures
