@@ -8,7 +8,7 @@ returns-in-Ok g c =
     let made = c.in-Ok.checked in
     let found = c.in-Ok.ensures in
     let papers = c.read_evidence.new.self in
-    checked found.0 (string_bytes made.output.text) (string_bytes made.object) found.1.0 (search rules) (search rules)
+    checked found.0 (string_bytes made.output.text) (string_bytes made.object) found.1 (search rules) (search rules)
     (subst (IsSitesChecked found.0 papers.prices.bytes.items papers.evidence.bytes.items (string_bytes made.output.text)
-    (string_bytes made.object)) (sym c.in_form.ensures.status) found.1.1)
+    (string_bytes made.object)) (sym c.in_form.ensures.status) found.2)
     c.in_form.ensures.text
