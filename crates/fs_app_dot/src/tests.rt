@@ -54,9 +54,9 @@ digraph G {
   \"P0:1\" -> \"P0:3\" [style=invis, weight=50];
   \"P1:1\" -> \"P1:3\" [style=invis, weight=50];
   \"P0:1\" -> \"P0:3\" [label=\" fence rw,rw \", color=\"#007030\", fontcolor=\"#007030\", penwidth=1.6, weight=20];
-  \"P0:3\" -> \"P1:1\" [label=\" fr \", color=\"#d07000\", fontcolor=\"#d07000\", penwidth=1.6, constraint=false];
+  \"P0:3\" -> \"P1:1\" [xlabel=\" fr \", color=\"#d07000\", fontcolor=\"#d07000\", penwidth=1.6, constraint=false];
   \"P1:1\" -> \"P1:3\" [label=\" fence rw,rw \", color=\"#007030\", fontcolor=\"#007030\", penwidth=1.6, weight=20];
-  \"P1:3\" -> \"P0:1\" [label=\" fr \", color=\"#d07000\", fontcolor=\"#d07000\", penwidth=1.6, constraint=false];
+  \"P1:3\" -> \"P0:1\" [xlabel=\" fr \", color=\"#d07000\", fontcolor=\"#d07000\", penwidth=1.6, constraint=false];
 }
 execution
 digraph G {
@@ -78,10 +78,10 @@ digraph G {
   \"P1:1\" -> \"P1:2\" [style=invis, weight=50];
   \"P0:1\" -> \"P0:2\" [label=\" not kept: no w,r \", color=\"#c000c0\", fontcolor=\"#c000c0\", penwidth=1.6, \
 style=dashed, weight=20];
-  \"P0:2\" -> \"P1:1\" [label=\" fr \", color=\"#d07000\", fontcolor=\"#d07000\", penwidth=1.6, constraint=false];
+  \"P0:2\" -> \"P1:1\" [xlabel=\" fr \", color=\"#d07000\", fontcolor=\"#d07000\", penwidth=1.6, constraint=false];
   \"P1:1\" -> \"P1:2\" [label=\" not kept: no w,r \", color=\"#c000c0\", fontcolor=\"#c000c0\", penwidth=1.6, \
 style=dashed, weight=20];
-  \"P1:2\" -> \"P0:1\" [label=\" fr \", color=\"#d07000\", fontcolor=\"#d07000\", penwidth=1.6, constraint=false];
+  \"P1:2\" -> \"P0:1\" [xlabel=\" fr \", color=\"#d07000\", fontcolor=\"#d07000\", penwidth=1.6, constraint=false];
 }
 ";
 
