@@ -1,5 +1,5 @@
 -- An execution with some fences is one with others exactly where its order keeps what these order.
-use Rattle.std.proofs.Common.{◌≡◌, ◌∙◌, ℕ, Bool, true, ◌&&◌, ◌||◌, not, List, length, ap, inl, inr, lit<, sym}
+use Rattle.std.proofs.Common.{◌≡◌, ◌∙◌, ℕ, Bool, true, ◌||◌, not, List, length, ap, inl, inr, lit<, sym}
 use Rattle.std.specs.Prelude.{Decides}
 use Rattle.std.specs.List.{list_all}
 use Rattle.std.proofs.lemmas.Bool.{and_from, and_parts, or_cases, or_left, or_right}

@@ -4,7 +4,7 @@ ghost use Rattle.std.specs.Prelude.{◌≡◌, ◌++◌, codes, filter, length, 
 ghost use Rattle.std.specs.List.{flat_map, list_all, list_any};
 ghost use Rattle.fs_kinds.specs.declared.fault.Fault.TheVariants.{Memory};
 ghost use Rattle.fs_kinds.specs.Kind.{all_kinds, word};
-ghost use Rattle.fs_kinds.specs.Placement.{has_slot, with_kind};
+ghost use Rattle.fs_kinds.specs.Placement.{has_slot};
 ghost use Rattle.fs_model.specs.Numbers.{numbers_below};
 ghost use Rattle.fs_model.specs.Operations.{operations};
 ghost use Rattle.fs_check.specs.Ordered.{IsOrdered, runs_in};
