@@ -247,7 +247,11 @@ pub fn answer_value(
         Answer::Fenced { placement, cost } => {
             fenced_value(alloc, names, placement.as_slice(), *cost)
         }
-        Answer::None { part, witness } => none_value(alloc, name_at(tests.files.as_slice(), *part), witness),
+        Answer::None { part, witness } => none_value(
+            alloc,
+            name_at(tests.files.as_slice(), *part),
+            witness,
+        ),
     }
 }
 
