@@ -1,5 +1,5 @@
 """The tests and files that scripts/bench measures. Two checks run some of the tests too. A hart is a line of words, as
-scripts/transcripts/idioms.table says, which has idioms and locks that grow."""
+scripts/transcripts/idioms.table says, which has idioms and locks that grow; words.table has what each word becomes."""
 import itertools
 import re
 
@@ -8,27 +8,7 @@ from running import TOP, rows as rows_of_table, text_of
 
 AND, OR = ' /\\ ', ' \\/ '
 HELD = [f'x{at}' for at in (*range(20, 32), *range(1, 5))]      # registers for addresses and constants
-ELSE = {'==': 'bne {0},{1}', '!=': 'beq {0},{1}', '<': 'bgeu {0},{1}', '>': 'bgeu {1},{0}'}
-COMPUTE = {'+': 'add', '-': 'sub', '&': 'and', '|': 'or', '<<': 'sll', '>>': 'srl'}
-ATOMIC = {'lr': 'lr.w', 'sc': 'sc.w', 'swap': 'amoswap.w', 'add': 'amoadd.w', 'or': 'amoor.w'}
-# What a word of the line becomes: a cell, or nothing.
-FORMS = {
-    r'\[(.*)\]': lambda hart, kind: hart.fences.append((hart.count, kind)),
-    r'(x\d+):(\S+)': lambda hart, register, value: hart.begin(register, value),
-    r'(\w+:)': lambda hart, label: label,
-    r'@(\w+)': lambda hart, label: f'j {label}',
-    r'(x\d+)(==|!=|<|>)([^@]+)@?(\w*)': lambda hart, register, which, value, label:
-        f'{ELSE[which].format(register, hart.of(value))},{label or "OUT"}',
-    r'(x\d+)=([a-z]+)\(([^,]+),?(.*)\)': lambda hart, register, name, place, value:
-        ','.join([f'{ATOMIC[name]} {register}', *map(hart.of, value.split()), hart.place(place)]),
-    r'(x\d+)=(x\d+)(<<|>>|\W)(\d+)': lambda hart, register, left, sign, number:
-        f'{COMPUTE[sign]}i {register},{left},{number}',
-    r'(x\d+)=(x\d+)(\W)(\S+)': lambda hart, register, left, sign, right:
-        f'{COMPUTE[sign]} {register},{left},{hart.of(right)}',
-    r'(x\d+)=(\d+)': lambda hart, register, number: f'li {register},{number}',
-    r'(x\d+)=(\S+)': lambda hart, register, place: f'lw {register},{hart.place(place)}',
-    r'(\S+)=(\S+)': lambda hart, place, value: f'sw {hart.of(value)},{hart.place(place)}',
-}
+FORMS = [row.split(' → ') for row in rows_of_table('words')]
 
 
 class Hart:
@@ -37,13 +17,21 @@ class Hart:
     def __init__(self, line):
         self.cells, self.entries, self.fences, self.held, self.count = [], {}, [], {'0': 'x0'}, 0
         for word in [*line.split(), 'OUT:']:
-            parts, made = next((parts, made) for form, made in FORMS.items() if (parts := re.fullmatch(form, word)))
-            if cell := made(self, *parts.groups()):
+            parts, form = next((parts, cell) for form, cell in FORMS if (parts := re.fullmatch(form, word)))
+            if cell := re.sub(r'\{(\w+)((?: \d)*)\}', lambda it, parts=parts: self.filled(parts, *it.groups()), form):
                 self.cells.append(cell)
                 self.count += cell[-1] != ':'
 
+    def filled(self, parts, name, numbers):
+        """A part of the word, or what the method of this name makes of the parts of these numbers."""
+        if name.isdigit():
+            return parts[int(name)]
+        return getattr(self, name)(*[parts[int(number)] for number in numbers.split()]) or ''
+
+    def fence(self, kind):
+        self.fences.append((self.count, kind))
+
     def begin(self, register, value):
-        """A register at the beginning."""
         self.entries[register] = value.lstrip('&')
 
     def of(self, value):
@@ -101,8 +89,7 @@ def expanded(text, sizes):
 
 def of_table(name):
     """The tests of a stored table, and the lines of their fences, by their names."""
-    found = {}
-    table = text_of(f'{TOP}/scripts/transcripts/{name}.table')
+    found, table = {}, text_of(f'{TOP}/scripts/transcripts/{name}.table')
     for title, block in re.findall(r'(?m)^## (.+)\n((?:.+\n)+)', table):
         kind, *ranges = title.split()
         lines = [line for line in block.splitlines() if not line.startswith('# ')]
@@ -122,7 +109,6 @@ def texts_of(table):
 
 
 def at_least(count, atoms):
-    """That so many of these are true."""
     if count == 1:
         return f'({OR.join(atoms)})'
     if count == len(atoms):
@@ -145,41 +131,9 @@ def long_searches():
     """The texts of tests whose search takes long with one worker, by their names."""
     grown = texts_of('grown')
     names = 'SB-7-4 SB-8-0 LB-7-4 MP-7-4 2+2W-7-4 IRIW-4 stores-7 stores-8 loads-12 loads-14 rounds-3'.split()
-    numbers = [(3, 2, 0), (3, 2, 3), (3, 2, 6), (4, 2, 0), (4, 2, 2), (4, 2, 6), (4, 2, 8), (4, 3, 0), (4, 3, 2),
-               (4, 3, 4), (4, 3, 8), (4, 3, 12)]
+    spares = {(3, 2): (0, 3, 6), (4, 2): (0, 2, 6, 8), (4, 3): (0, 2, 4, 8, 12)}
+    numbers = [(*each, spare) for each in spares for spare in spares[each]]
     return {name: grown[name] for name in names} | {'votes-%d-%d-%d' % each: votes(*each) for each in numbers}
-
-
-# How a hart takes a lock, or gives up, and frees it, with the sites of the lock.
-LOCKS = {
-    'swap': ('x10=swap(lock,1) x10==0 swap_lock_#:', 'swap_unlock_#: lock=0'),
-    'lrsc': ('x10=lr(lock) x10==0 x11=sc(lock,1) x11==0 lrsc_lock_#:', 'lrsc_unlock_#: lock=0'),
-    'ticket': ('x10=add(next,1) x11=now x11==x10 ticket_lock_#:', 'x12=x11+1 ticket_unlock_#: now=x12'),
-}
-# What each hart does in the lock, and what can't come of it.
-CLIENTS = {
-    'copy': ('x13=a x13=x13+1 a=x13 b=x13', '~(a={n} /\\ b={n})'),
-    'two': ('x13=a x15=b x13=x13+1 a=x13 b=x13', '~(a={n} /\\ b={n})'),
-    'sum': ('x13=a x13=x13+1 a=x13 x15=b x15=x15+1 b=x15', '~(a={n} /\\ b={n})'),
-    'pass': ('x13=a b=x13 x15=b x15=x15+1 a=x15', '~(a={n})'),
-    'see': ('x13=a x15=b a=$ b=$ x16=x13-x15', 'some«~(#:x16=0)»'),
-    'set': ('a=$ b=$ x13=a x15=b x16=x13-x15', 'some«~(#:x16=0)»'),
-}
-
-
-def in_lock(lock, client, harts):
-    """A test of a question over sites: so many harts take the lock, one after the other, and do this in it."""
-    (take, free), (body, bad) = LOCKS[lock], CLIENTS[client]
-    lines = rows(range(harts), f'{take} {body} {free} x14=1')
-    return test_of(f'{lock}-{client}-{harts}', lines, expanded(f'(every«#:x14=1»{AND}{bad})', {'n': harts}))[0]
-
-
-def locks_of_sites():
-    """The texts of 20 tests of three locks, which are one question over sites, by their names."""
-    long = itertools.product(['swap', 'lrsc'], CLIENTS, [4])
-    others = [('ticket', client, 4) for client in ('copy', 'pass', 'see', 'set')]
-    few = [(lock, 'sum', 3) for lock in LOCKS] + [('ticket', 'two', 3)]
-    return {'-'.join(map(str, each)): in_lock(*each) for each in [*long, *others, *few]}
 
 
 PARTS = {'⏎': '\n', 'HEAD': 'RISCV T\n', 'BODY': '{ 0:x6=x; }\nP0 ;\nlw x5,0(x6) ;\n', 'TAIL': 'exists (0:x5=0)\n'}

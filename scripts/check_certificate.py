@@ -9,16 +9,15 @@ with the program. The sections below name the part of these documents that they 
 
 It prints `yes` and the answer, status 0; or `no: ` and the first reason of docs/CERTIFICATE.md, section 5, status 1.
 Bytes that are no certificate are `fault F18 BadCertificate` on standard error, and any other file that can't be read
-is another line there, with the fault that the program finds in it; both have status 2.
-"""
+is another line there, with the fault that the program finds in it; both have status 2."""
 import collections
 import functools
 import itertools
 import json
 import math
+import operator
 import re
 import sys
-import typing
 
 WORDS = 2 ** 32
 MOST_RUNS = 100000                  # of a hart
@@ -29,11 +28,7 @@ class Unreadable(Exception):
 
 
 class Fault(Unreadable):
-    """The fault of a test, of its runs or of a price list, as its line says it."""
-
-
-class NotACertificate(Exception):
-    """The bytes are no certificate file."""
+    """The fault of a test, of its runs, of a price list or of a certificate file, as its line says it."""
 
 
 class Refused(Exception):
@@ -48,8 +43,7 @@ def ask(holds, reason):
 
 # --- JSON as the formats ask for it ------------------------------------------------------------------------------
 
-OTHER_NUMBER = object()
-"""Stands for each number that isn't a whole number from 0 to 2^64 - 1. No key takes it."""
+OTHER_NUMBER = object()         # stands for each that isn't a whole number from 0 to 2^64 - 1; no key takes it
 
 
 def number_of_json(text):
@@ -106,7 +100,7 @@ def product_of(before, after):
 
 TSO = frozenset(['RR', 'RW', 'WW'])
 KINDS = ['r,r', 'r,w', 'r,rw', 'w,r', 'w,w', 'w,rw', 'rw,r', 'rw,w', 'rw,rw', 'tso']
-PAIRS = {kind: TSO if kind == 'tso' else product_of(*kind.split(',')) for kind in KINDS}
+PAIRS = {None: frozenset(), **{kind: TSO if kind == 'tso' else product_of(*kind.split(',')) for kind in KINDS}}
 ALL_PAIRS = ['RR', 'RW', 'WR', 'WW']
 
 
@@ -121,35 +115,29 @@ def signed(word):
     return word - WORDS if word >= WORDS // 2 else word
 
 
+COMPARES = {
+    'eq': operator.eq, 'ne': operator.ne,
+    'ltu': operator.lt, 'geu': operator.ge, 'gtu': operator.gt, 'leu': operator.le,
+    'lt': lambda a, b: signed(a) < signed(b), 'ge': lambda a, b: signed(a) >= signed(b),
+    'gt': lambda a, b: signed(a) > signed(b), 'le': lambda a, b: signed(a) <= signed(b),
+}
 COMPUTES = {
-    'add': lambda a, b: a + b, 'sub': lambda a, b: a - b,
-    'xor': lambda a, b: a ^ b, 'or': lambda a, b: a | b, 'and': lambda a, b: a & b,
+    'add': operator.add, 'sub': operator.sub, 'xor': operator.xor, 'or': operator.or_, 'and': operator.and_,
     'sll': lambda a, b: a << (b & 31), 'srl': lambda a, b: a >> (b & 31), 'sra': lambda a, b: signed(a) >> (b & 31),
-    'slt': lambda a, b: int(signed(a) < signed(b)), 'sltu': lambda a, b: int(a < b), 'swap': lambda a, b: b,
-    'min': lambda a, b: min(a, b, key=signed), 'max': lambda a, b: max(a, b, key=signed), 'minu': min, 'maxu': max,
+    'slt': COMPARES['lt'], 'sltu': operator.lt, 'swap': lambda a, b: b, 'minu': min, 'maxu': max,
+    'min': lambda a, b: min(a, b, key=signed), 'max': lambda a, b: max(a, b, key=signed),
 }
 RANGES = {'i': (-2048, 2047), 'm': (-2048, 2047), 'n': (0, 31), 'u': (0, 2 ** 20 - 1), 'c': (-2 ** 31, WORDS - 1),
           'o': (0, 0)}
 
 FORMS = {
-    'lui': ('d,u', 'compute', COMPUTES['add']), 'li': ('d,c', 'compute', COMPUTES['add']),
-    'nop': ('', 'compute', COMPUTES['add']), 'mv': ('d,s', 'compute', COMPUTES['add']),
-    'lw': ('d,m(a)', 'load', None), 'sw': ('v,m(a)', 'store', None),
-    'seqz': ('d,s', 'compute', lambda a, b: int(a == 0)), 'snez': ('d,s', 'compute', lambda a, b: int(a != 0)),
-    'sltz': ('d,s', 'compute', lambda a, b: int(signed(a) < 0)),
-    'sgtz': ('d,s', 'compute', lambda a, b: int(signed(a) > 0)),
+    'lui': ('d,u', 'compute', operator.add), 'li': ('d,c', 'compute', operator.add),
+    'nop': ('', 'compute', operator.add), 'mv': ('d,s', 'compute', operator.add),
     'neg': ('d,s', 'compute', lambda a, b: -a), 'not': ('d,s', 'compute', lambda a, b: ~a),
-    'sext.w': ('d,s', 'compute', COMPUTES['add']),
-    'beq': ('s,s,l', 'branch', lambda a, b: a == b), 'bne': ('s,s,l', 'branch', lambda a, b: a != b),
-    'blt': ('s,s,l', 'branch', lambda a, b: signed(a) < signed(b)), 'bltu': ('s,s,l', 'branch', lambda a, b: a < b),
-    'bge': ('s,s,l', 'branch', lambda a, b: signed(a) >= signed(b)), 'bgeu': ('s,s,l', 'branch', lambda a, b: a >= b),
-    'beqz': ('s,l', 'branch', lambda a, b: a == 0), 'bnez': ('s,l', 'branch', lambda a, b: a != 0),
-    'blez': ('s,l', 'branch', lambda a, b: signed(a) <= 0), 'bgez': ('s,l', 'branch', lambda a, b: signed(a) >= 0),
-    'bltz': ('s,l', 'branch', lambda a, b: signed(a) < 0), 'bgtz': ('s,l', 'branch', lambda a, b: signed(a) > 0),
-    'bgt': ('s,s,l', 'branch', lambda a, b: signed(a) > signed(b)), 'bgtu': ('s,s,l', 'branch', lambda a, b: a > b),
-    'ble': ('s,s,l', 'branch', lambda a, b: signed(a) <= signed(b)), 'bleu': ('s,s,l', 'branch', lambda a, b: a <= b),
-    'jal': ('z,l', 'jump', None), 'j': ('l', 'jump', None),
-    'fence': ('f,f', 'fence', None), 'fence.tso': ('', 'fence', None), 'fence.i': ('', 'fence', None),
+    'sext.w': ('d,s', 'compute', operator.add), 'sltiu': ('d,s,i', 'compute', operator.lt),
+    'lw': ('d,m(a)', 'load', None), 'sw': ('v,m(a)', 'store', None), 'jal': ('z,l', 'jump', None),
+    'j': ('l', 'jump', None), 'fence': ('f,f', 'fence', None), 'fence.tso': ('', 'fence', None),
+    'fence.i': ('', 'fence', None),
 }
 """Of each instruction (FORMAT 2) its operands, its form, and what it computes or when it jumps. Operands are d, the
 register rd; s, one to read plainly; v, the data; a, the address; z, the register x0; l, a label; f, the letters of a
@@ -158,7 +146,12 @@ for _name in ['add', 'sub', 'xor', 'or', 'and', 'sll', 'srl', 'sra', 'slt', 'slt
     FORMS[_name] = ('d,s,s', 'compute', COMPUTES[_name])
 for _name in ['add', 'xor', 'or', 'and', 'slt', 'sll', 'srl', 'sra']:
     FORMS[_name + 'i'] = ('d,s,n' if _name in ('sll', 'srl', 'sra') else 'd,s,i', 'compute', COMPUTES[_name])
-FORMS['sltiu'] = ('d,s,i', 'compute', COMPUTES['sltu'])
+for _name, _compare in COMPARES.items():
+    FORMS['b' + _name] = ('s,s,l', 'branch', _compare)
+    if not _name.endswith('u'):
+        FORMS['b%sz' % _name] = ('s,l', 'branch', _compare)         # with 0
+    if _name in ('eq', 'ne', 'lt', 'gt'):
+        FORMS['s%sz' % _name] = ('d,s', 'compute', _compare)
 for _bits in ['', '.aq', '.rl', '.aqrl', '.aq.rl']:
     FORMS['lr.w' + _bits] = ('d,o(a)', 'lr', None)
     FORMS['sc.w' + _bits] = ('d,v,o(a)', 'sc', None)
@@ -172,20 +165,14 @@ class Instruction:
     def __init__(self, form, function):
         self.form = form            # compute, load, store, lr, sc, amo, branch, jump or fence
         self.function = function    # what is computed, or when the branch jumps
-        self.rd, self.plain = 0, ()
-        self.address = self.data = None
+        self.rd, self.plain, self.address, self.data = 0, (), None, None
         self.number = 0             # immediate or offset
         self.label = None           # where a branch goes: a name, and once all labels are known, a position
         self.aq = self.rl = False
-        self.letters = ()           # of a written fence
-        self.pairs = frozenset()    # what it orders
+        self.letters, self.pairs = (), frozenset()      # of a written fence, and what it orders
 
     def is_memory(self):
         return self.address is not None
-
-    def sources(self):
-        """All registers that are read; x0 is never a source."""
-        return [register for register in self.plain + (self.address, self.data) if register]
 
 
 class Test:
@@ -198,12 +185,11 @@ class Test:
         self.words = {}             # the word at each address at the beginning
         self.outcome = ('constant', True)
         self.wanted = (self.outcome, True)      # the condition, and the truth value that it has where the outcome is
-        self.columns = []           # of each hart its cells: tokens and their lines
+        self.labels = []            # of each hart place, name and line of each label that names a site
 
     def memory_instructions(self):
         """Hart and instruction of each memory instruction."""
-        return [(hart, position) for hart, code in enumerate(self.code)
-                for position, instruction in enumerate(code) if instruction.is_memory()]
+        return [(hart, at) for hart, code in enumerate(self.code) for at, it in enumerate(code) if it.is_memory()]
 
     def slots(self):
         """Hart and instruction of each slot: before a memory instruction whose hart has an earlier one (FORMAT 3)."""
@@ -213,7 +199,6 @@ class Test:
 TOKEN = re.compile(r'(\(\*|\*\))|([A-Za-z0-9_.]+|/\\|\\/|[^ \t\r])')
 """A sign of a comment; or a token, or a line end."""
 SIGNS = {*'{};|,:=()[]~-*&<>!', '/\\', '\\/'}
-CONNECTIVES = {'/\\': 'and', '\\/': 'or', '=>': 'or'}
 FAULTS = {3: 'Syntax', 4: 'UnknownInstr', 5: 'BadAnnotation', 6: 'BadLabel', 7: 'BadInit'}
 
 
@@ -281,13 +266,12 @@ def joined(stack, right, signs):
     as grouped and as written; a denial and an open parenthesis have nothing at their left."""
     while stack and stack[-1][0] in signs:
         sign, tree, grouped, written = stack.pop()
-        joint = CONNECTIVES.get(sign), tree, right[0]
+        joint = 'and' if sign == '/\\' else 'or', tree, right[0]
         right = denied(*right) if sign == '~' else (joint, 1 + max(grouped, right[1]), max(written, right[2]))
     return right
 
 
 def denied(tree, grouped, written):
-    """The denial of a condition."""
     return ('not', tree), grouped + 1, written + 1
 
 
@@ -363,22 +347,17 @@ class TestReader:
         """A word, or None where the number is out of range."""
         if is_name(self.peek()):
             return self.location()
-        sign = -1 if self.accept('-') else 1
-        number = sign * number_of(self.next(is_number))
+        number = (-1 if self.accept('-') else 1) * number_of(self.next(is_number))
         return number % WORDS if -2 ** 31 <= number < WORDS else None
 
-    def skip_type(self):
-        """Goes past the names of a type, each with `*` behind it or without."""
-        while is_name(self.peek()) and (is_word(self.peek(1)) or self.peek(1) in ('[', '*')):
-            self.next(is_name)
-            self.accept('*')
-
     def entries(self):
-        """The entries of the init block: line, target and value of each."""
+        """The entries of the init block: line, target and value of each. A type may stand before it and is skipped."""
         found = []
         self.expect('{')
         while not self.accept('}'):
-            self.skip_type()
+            while is_name(self.peek()) and (is_word(self.peek(1)) or self.peek(1) in ('[', '*')):
+                self.next(is_name)
+                self.accept('*')
             line, target, word = self.line(), self.target(), 0
             if self.accept('='):
                 word = self.location() if self.accept('&') else self.value()
@@ -387,18 +366,13 @@ class TestReader:
                 self.expect(';')
         return found
 
-    def header(self):
-        """The number of harts."""
-        self.expect('P0')
-        harts = 1
-        while self.expect('|', ';') == '|':
-            self.expect('P%d' % harts)
-            harts += 1
-        return harts
-
-    def rows(self, harts):
+    def columns(self):
         """Of each hart its cells: tokens and their lines."""
-        columns = [[] for _ in range(harts)]
+        self.expect('P0')
+        columns = [[]]
+        while self.expect('|', ';') == '|':
+            self.expect('P%d' % len(columns))
+            columns.append([])
         while self.peek() not in ('locations', 'exists', 'forall', '~'):
             for cells in columns:
                 start = self.at
@@ -407,28 +381,23 @@ class TestReader:
                 self.expect('|' if cells is not columns[-1] else ';')
         return columns
 
-    def sign(self):
-        """Is the sign of an atom `=` or `==`? Else it is `<>` or `!=`."""
-        first = self.expect('=', '<', '!')
-        if first != '=' or self.peek() == '=':
-            self.expect('>' if first == '<' else '=')
-        return first == '='
-
     def is_said(self, *words):
         """Does one of these words stand here, and name no location?"""
         is_implying = self.peek() != 'not' and (self.peek(1), self.peek(2)) == ('=', '>')
         return self.peek() in words and (is_implying or self.peek(1) not in ('=', '<', '!'))
 
     def atom(self):
-        """An atom, `true` or `false`, with its depths."""
+        """An atom, `true` or `false`, with its depths. Its sign is `=` or `==`, else `<>` or `!=`."""
         if self.is_said('true', 'false'):
             return ('constant', self.next(is_word) == 'true'), 0, 0
-        target, is_equal = self.target(), self.sign()
+        target, sign = self.target(), self.expect('=', '<', '!')
+        if sign != '=' or self.peek() == '=':
+            self.expect('>' if sign == '<' else '=')
         value, is_register = self.value(), type(target) is tuple
         is_there = not is_register or target[0] < len(self.test.registers) and target[1] is not None
         self.has_bad_atom |= value is None or not is_there
         found = 'register' if is_register else 'word', target, value
-        return (found, 0, 0) if is_equal else denied(found, 0, 0)
+        return (found, 0, 0) if sign == '=' else denied(found, 0, 0)
 
     def condition(self):
         """The condition, and its depth, both as written and as grouped. The stack has what is open: parentheses,
@@ -458,7 +427,7 @@ class TestReader:
 
     def read(self):
         test, entries = self.test, self.entries()
-        columns = test.columns = self.rows(self.header())
+        columns = self.columns()
         test.registers = [[0] * 32 for _ in columns]
         if self.accept('locations'):
             self.expect('[')
@@ -471,21 +440,21 @@ class TestReader:
         if not self.is_closed:
             raise Fault('fault F3 Syntax line %d' % self.last)
         test.code = [self.code(cells) for cells in columns]
-        self.begin(entries)
         test.wanted = (condition, quantifier != 'forall')
         test.outcome = ('not', condition) if quantifier == 'forall' else condition
-        self.judge(depth)
+        self.end(entries, depth)
         return test
 
     def code(self, cells):
         """The instructions of a hart, whose cells are tokens and their lines. Each branch must go to a later place."""
-        code, places, labels = [], [], {}
+        code, places, labels, sites, ends = [], [], {}, [], {words[-1] for words, _ in cells if words}
         for words, lines in cells:
             at = 0
             while words[at + 1:at + 2] == [':'] and (is_name(words[at]) or is_number(words[at])):
                 if words[at] in labels:
                     self.faults.append((6, lines[at]))
                 labels.setdefault(words[at], len(code))
+                sites += [(len(code), words[at], lines[at])] * bool(is_name(words[at]) and words[at] not in ends)
                 at += 2
             if at == len(words):
                 continue
@@ -503,10 +472,11 @@ class TestReader:
             if made.label is not None:
                 made.label = labels.get(made.label, -1)
                 self.faults += [(6, line)] * (made.label <= at)
+        self.test.labels.append(sites)
         return code
 
-    def begin(self, entries):
-        """Gives registers and locations their words at the beginning."""
+    def end(self, entries, depth):
+        """Gives registers and locations their words at the beginning, and raises the test's fault, if it has one."""
         seen, harts = set(), len(self.test.registers)
         for line, target, word in entries:
             is_register = type(target) is tuple
@@ -518,9 +488,6 @@ class TestReader:
             else:
                 self.test.words[target] = word
             seen.add(target)
-
-    def judge(self, depth):
-        """Raises the test's fault, where it has one."""
         if self.faults:
             number, line = min(self.faults)
             raise Fault('fault F%d %s line %d' % (number, FAULTS[number], line))
@@ -535,8 +502,14 @@ class TestReader:
                 raise Fault('fault F9 TooBig %s' % what)
 
 
-def title_start(text):
-    """Where the first line begins that has more than blanks and comments."""
+def test_of(data):
+    """The test that these bytes are, or its fault is raised. Lines of blanks and comments stand before the title."""
+    if len(data) > 2 ** 20:
+        raise Fault('fault F20 ReadFault')
+    try:
+        text = data.decode('utf-8')
+    except UnicodeDecodeError:
+        raise Fault('fault F1 BadUtf8')
     start = depth = 0
     for found in TOKEN.finditer(text):
         depth += {'(*': 1, '*)': -1}.get(found[1], 0)
@@ -544,18 +517,7 @@ def title_start(text):
             start = found.end()
         elif depth < 0 or not depth and found[2]:
             break
-    return start
-
-
-def test_of(data):
-    """The test that these bytes are. Raises its fault, where it has one."""
-    if len(data) > 2 ** 20:
-        raise Fault('fault F20 ReadFault')
-    try:
-        text = data.decode('utf-8')
-    except UnicodeDecodeError:
-        raise Fault('fault F1 BadUtf8')
-    title = re.compile(r'RISCV[ \t\r]+[^ \t\r\n].*\n?').match(text, title_start(text))
+    title = re.compile(r'RISCV[ \t\r]+[^ \t\r\n].*\n?').match(text, start)
     if not title:
         raise Fault('fault F2 NotRiscv')
     block = re.compile(r'^[ \t\r]*\{', re.MULTILINE).search(text, title.end())
@@ -564,23 +526,29 @@ def test_of(data):
     return TestReader(text[start:], text.count('\n', 0, start) + 1, last).read()
 
 
-def truth(condition, registers, words):
-    """Is the condition true of these registers and words at addresses? None where a word that counts isn't known."""
+def truths(condition, of_atom):
+    """The truth values that the condition may have, where an atom may have those that `of_atom` gives."""
     match condition:
         case 'constant', value:
-            return value
-        case 'register', (hart, register), word:
-            return registers[hart][register] == word
-        case 'word', address, word:
-            return words[address] == word if address in words else None
+            return {value}
         case 'not', part:
-            value = truth(part, registers, words)
-            return None if value is None else not value
-    parts = [truth(part, registers, words) for part in condition[1:]]
-    decisive = condition[0] == 'or'
-    if decisive in parts:
-        return decisive
-    return None if None in parts else not decisive
+            return {not value for value in truths(part, of_atom)}
+        case ('and' | 'or') as joint, *parts:
+            found = [truths(part, of_atom) for part in parts]
+            ways = {joint == 'or': any, joint == 'and': all}        # one part decides, or all do
+            return {value for value, way in ways.items() if way(value in each for each in found)}
+    return of_atom(*condition)
+
+
+def truth(condition, registers, words):
+    """Is the condition true of these registers and words at addresses? None where a word that counts isn't known."""
+    def of_atom(kind, place, word):
+        if kind == 'register':
+            return {registers[place[0]][place[1]] == word}
+        return {words[place] == word} if place in words else {True, False}
+
+    found = truths(condition, of_atom)
+    return True in found if len(found) == 1 else None
 
 
 # --- Prices (FORMAT 4) -------------------------------------------------------------------------------------------
@@ -596,9 +564,6 @@ class Prices:
         """What this kind costs at this slot, or at the site of this name."""
         name = place if type(place) is str else 'P%d:%d' % place
         return self.price[kind] * self.weight.get(name, 1)
-
-    def cost(self, slots, placement):
-        return sum(self.at(slot, kind) for slot, kind in zip(slots, placement) if kind is not None)
 
 
 def prices_of(data, of_sites=False):
@@ -655,24 +620,15 @@ class Step:
         """Does this step depend on that one through one of these sources?"""
         return any(step in self.origins.get(register, ()) for register in registers)
 
-    def address_depends(self, step):
-        return self.depends(step, self.instruction.address)
-
-    def data_depends(self, step):
-        return self.depends(step, self.instruction.data)
-
 
 class Run:
     """The run of a hart that these choices make."""
 
     def __init__(self, test, hart, choices):
-        self.test, self.hart, self.choices = test, hart, choices
-        self.steps = []
-        self.pairs = []             # lr.w and sc.w
-        self.registers = list(test.registers[hart])
-        self.origins = [frozenset()] * 32
-        self.used = 0
-        self.reserving = None       # the lr.w with which an sc.w here would be paired
+        self.test, self.hart, self.choices, self.used = test, hart, choices, 0
+        self.steps, self.pairs = [], []         # the pairs are of lr.w and sc.w
+        self.registers, self.origins = list(test.registers[hart]), [frozenset()] * 32
+        self.reserving = None                   # the lr.w with which an sc.w here would be paired
         position = 0
         while position < len(test.code[hart]):
             position = self.execute(position)
@@ -684,9 +640,10 @@ class Run:
         """Makes one step, and gives the position of the next one."""
         instruction = self.test.code[self.hart][position]
         step = Step(self, position, instruction)
-        step.origins = {register: self.origins[register] for register in instruction.sources()}
-        result = None
-        goes_to = position + 1
+        # all registers that are read; x0 is never a source
+        sources = filter(None, instruction.plain + (instruction.address, instruction.data))
+        step.origins = {register: self.origins[register] for register in sources}
+        result, goes_to = None, position + 1
         # what is missing is the number, and then 0
         operands = ([self.registers[register] for register in instruction.plain] + [instruction.number, 0])[:2]
         if instruction.form == 'compute':
@@ -703,11 +660,19 @@ class Run:
         return goes_to
 
     def access(self, step, instruction):
-        """Accesses memory, and gives the word for rd, if there is one."""
+        """Accesses memory, and gives the word for rd, if any. An sc.w may fail, and must where it isn't paired."""
         address = (self.registers[instruction.address] + instruction.number) % WORDS
         data = self.registers[instruction.data] if instruction.data is not None else None
         if instruction.form == 'sc':
-            return self.store_conditional(step, address, data)
+            results = (True, False) if self.reserving and self.reserving.address == address else (False,)
+            succeeds = self.choose(None, results)
+            if type(succeeds) is not bool or succeeds not in results:
+                raise NoRun()
+            if succeeds:
+                step.accesses(address, stored=data)
+                self.pairs.append((self.reserving, step))
+            self.reserving = None
+            return 0 if succeeds else 1
         if address not in self.test.words:
             raise GoesAstray(step.position)
         if instruction.form == 'store':
@@ -722,18 +687,6 @@ class Run:
             self.reserving = step
         return loaded
 
-    def store_conditional(self, step, address, data):
-        """An sc.w succeeds only where it is paired with an lr.w of its address, and may always fail."""
-        can_succeed = self.reserving is not None and self.reserving.address == address
-        succeeds = self.choose(None, (True, False) if can_succeed else (False,))
-        if type(succeeds) is not bool or succeeds and not can_succeed:
-            raise NoRun()
-        if succeeds:
-            step.accesses(address, stored=data)
-            self.pairs.append((self.reserving, step))
-        self.reserving = None
-        return 0 if succeeds else 1
-
     def choose(self, address, results):
         if self.used == len(self.choices):
             raise ChoicesEnd(address, results)
@@ -742,8 +695,7 @@ class Run:
 
 
 def ends_over(test, hart, words, choices=()):
-    """The runs of a hart that load words of these sets alone, by their choices: words rising, success before failure.
-    Where one goes astray, that stands in its place."""
+    """The runs of a hart over these sets of words, or how they go astray: words rising, success before failure."""
     try:
         yield Run(test, hart, choices)
     except GoesAstray as astray:
@@ -767,8 +719,8 @@ def all_runs_over(test, words):
     return found
 
 
-def value_sets(test):
-    """The words that each location may come to hold, round by round (MODEL 11)."""
+def all_runs(test):
+    """Of each hart all its runs over the words that each location may come to hold, round by round (MODEL 11)."""
     sets = {address: {word} for address, word in test.words.items()}
     for _ in range(sum(instruction.form in ('store', 'sc', 'amo') for code in test.code for instruction in code)):
         wider = {address: set(words) for address, words in sets.items()}
@@ -779,12 +731,7 @@ def value_sets(test):
         if wider == sets:
             break
         sets = wider
-    return sets
-
-
-def all_runs(test):
-    """Of each hart all its runs over the value sets."""
-    return all_runs_over(test, value_sets(test))
+    return all_runs_over(test, sets)
 
 
 # --- Operations (MODEL 2) ----------------------------------------------------------------------------------------
@@ -855,16 +802,16 @@ RULES = [
     # 8: a is paired with b
     lambda preserved, a, b: (a, b) in a.run.pairs,
     # 9 and 10: by address and by data
-    lambda preserved, a, b: b.address_depends(a),
-    lambda preserved, a, b: b.data_depends(a),
+    lambda preserved, a, b: b.depends(a, b.instruction.address),
+    lambda preserved, a, b: b.depends(a, b.instruction.data),
     # 11: b is a store, and a conditional branch between them depends on a
     lambda preserved, a, b: b.stores and any(
         step.instruction.form == 'branch' and step.depends(a, *step.instruction.plain) for step in between(a, b)),
     # 12: b returns what a store m between them stored, and m depends on a by its address or data
     lambda preserved, a, b: b.loads and any(
-        m is preserved.rf[b] and (m.address_depends(a) or m.data_depends(a)) for m in between(a, b)),
+        m is preserved.rf[b] and m.depends(a, m.instruction.address, m.instruction.data) for m in between(a, b)),
     # 13: b is a store, and the address of an instruction between them depends on a
-    lambda preserved, a, b: b.stores and any(step.address_depends(a) for step in between(a, b)),
+    lambda preserved, a, b: b.stores and any(step.depends(a, step.instruction.address) for step in between(a, b)),
 ]
 
 
@@ -876,11 +823,7 @@ class Preserved:
         self.placed = [(slot, PAIRS[kind]) for slot, kind in zip(slots, placement) if kind is not None]
 
     def rule(self, number, a, b):
-        """Does this rule put a before b?"""
         return po(a, b) and RULES[number - 1](self, a, b)
-
-    def ppo(self, a, b):
-        return po(a, b) and any(rule(self, a, b) for rule in RULES)
 
 
 # --- Candidates that show the outcome (MODEL 15) -----------------------------------------------------------------
@@ -891,28 +834,25 @@ class Candidate:
     def __init__(self, operations, rf, co):
         self.operations, self.rf = operations, rf
         self.place = {store: place for order in co.values() for place, store in enumerate(order)}
-
-    def co(self, a, b):
-        return a.stores and b.stores and a.address == b.address and self.place[a] < self.place[b]
-
-    def rfe(self, a, b):
-        return b.loads and self.rf[b] is a and a.hart != b.hart
-
-    def fr(self, a, b):
-        return a.loads and b is not a and self.co(self.rf[a], b)
+        self.last = {address: order[-1].stored for address, order in co.items()}        # the last words
 
     def is_edge(self, preserved, a, cause, b):
         """Is a before b in the judged relation, for this cause?"""
-        if cause.startswith('p'):
-            return preserved.rule(int(cause[1:]), a, b)
-        return {'rf': self.rfe, 'co': self.co, 'fr': self.fr}[cause](a, b)
+        match cause:
+            case 'rf':
+                return b.loads and self.rf[b] is a and a.hart != b.hart
+            case 'co':
+                return a.stores and b.stores and a.address == b.address and self.place[a] < self.place[b]
+            case 'fr':
+                return a.loads and b is not a and self.is_edge(preserved, self.rf[a], 'co', b)
+        return preserved.rule(int(cause[1:]), a, b)
 
-
-def sources_of(operations, load):
-    """What may be the source of this load, the initial store first: stores of its word, of its hart earlier ones."""
-    stores = [operations.initial[load.address]] + operations.stores_to(load.address)
-    return [store for store in stores if store is not load and store.stored == load.loaded
-            and (store.hart != load.hart or po(store, load))]
+    def has_cycle(self, preserved, cycle):
+        """Is each operation before the next one, and the last before the first, for its cause?"""
+        named = self.operations.named
+        return all(name in named for name, _ in cycle) and all(
+            self.is_edge(preserved, named[name], cause, named[next_name])
+            for (name, cause), (next_name, _) in zip(cycle, cycle[1:] + cycle[:1]))
 
 
 def coherence_orders(operations, rf, address):
@@ -937,7 +877,11 @@ def candidates(test):
         operations = Operations(test, runs)
         if operations.have_outcome({}) is False:
             continue
-        for sources in itertools.product(*[sources_of(operations, load) for load in operations.loads]):
+        # the sources of a load, the initial store first: stores of its word, of its hart earlier ones
+        stores = [[operations.initial[load.address]] + operations.stores_to(load.address) for load in operations.loads]
+        may_be = [[store for store in each if store is not load and store.stored == load.loaded
+                   and (store.hart != load.hart or po(store, load))] for load, each in zip(operations.loads, stores)]
+        for sources in itertools.product(*may_be):
             rf = dict(zip(operations.loads, sources))
             each = [list(coherence_orders(operations, rf, address)) for address in test.words]
             for found in itertools.product(*each):
@@ -951,25 +895,20 @@ class Execution:
     """Runs and an order of the harts' operations; `gmo` is the global memory order, the initial stores in front."""
 
     def __init__(self, operations, order):
-        self.operations = operations
-        self.gmo = list(operations.initial.values()) + order
+        self.operations, self.gmo = operations, list(operations.initial.values()) + order
         self.place = {operation: at for at, operation in enumerate(self.gmo)}
-        self.rf = {load: self.source(load) for load in operations.loads}
-
-    def before(self, a, b):
-        return self.place[a] < self.place[b]
-
-    def source(self, load):
-        """The latest among the stores to its word that precede the load in the order or in program order."""
-        may_be = [store for store in self.gmo if store.stores and store.address == load.address and store is not load
-                  and (self.before(store, load) or po(store, load))]
-        return may_be[-1]
+        # two operations of a hart each, which come to memory against program order
+        self.turned = [(a, b) for a in operations.of_harts for b in operations.of_harts
+                       if po(a, b) and self.place[b] < self.place[a]]
+        # the latest among the stores to its word that precede a load in the order or in program order
+        self.rf = {load: [store for store in self.gmo if store.stores and store.address == load.address
+                          and store is not load and (self.place[store] < self.place[load] or po(store, load))][-1]
+                   for load in operations.loads}
 
     def obeys_axioms(self, slots, placement):
         """Preserved program order, load value and atomicity."""
-        operations = self.operations
-        preserved = Preserved(self.rf, slots, placement)
-        return (all(self.before(a, b) for a in operations.of_harts for b in operations.of_harts if preserved.ppo(a, b))
+        operations, preserved = self.operations, Preserved(self.rf, slots, placement)
+        return (not any(rule(preserved, a, b) for a, b in self.turned for rule in RULES)
                 and all(self.rf[load].stored == load.loaded for load in operations.loads)
                 and all(keeps_atomicity([store for store in self.gmo if store.stores and store.address == sc.address],
                                         self.rf[lr], sc) for lr, sc in operations.pairs))
@@ -979,23 +918,18 @@ class Execution:
 
     def width(self, slot):
         """The pairs that a fence at this slot may have and order no two operations against this execution."""
-        harts = self.operations.of_harts
-        turned = [(a, b) for a in harts for b in harts
-                  if po(a, b) and not self.before(a, b) and runs_slot_between(slot, a, b)]
+        turned = [(a, b) for a, b in self.turned if runs_slot_between(slot, a, b)]
         return {pair for pair in ALL_PAIRS if not any(orders([pair], a, b) for a, b in turned)}
 
 
 def execution_of(test, witness):
     """The runs and the order that this witness gives, or None."""
-    if len(witness['choices']) != len(test.code):
-        return None
     try:
-        runs = [Run(test, hart, choices) for hart, choices in enumerate(witness['choices'])]
+        runs = [Run(test, hart, choices) for hart, choices in zip(range(len(test.code)), witness['choices'])]
     except NoRun:
         return None
-    operations = Operations(test, runs)
-    names = witness['order']
-    if sorted(names) != sorted(operations.named):
+    operations, names = Operations(test, runs), witness['order']
+    if len(witness['choices']) != len(test.code) or sorted(names) != sorted(operations.named):
         return None
     return Execution(operations, [operations.named[name] for name in names])
 
@@ -1015,44 +949,40 @@ def is_byte_name(value):
     return is_name_of_operation(value) and all(len(part) < 4 and int(part) < 256 for part in value[1:].split(':'))
 
 
-def is_cycle(value):
-    return has_form(value, [(is_name_of_operation, lambda cause: cause in CAUSES)]) and 1 <= len(value) <= 64
+def any_of(*forms):
+    """The form of what has one of these."""
+    return lambda value: any(has_form(value, form) for form in forms)
 
 
-def is_item_of_1(value):
-    """A split, or a leaf that needs no bound."""
-    return is_whole(value) or value == 'c' or has_form(value, ('w', is_whole))
+def some_of(form, most=math.inf):
+    """The form of a list of such entries, one at least."""
+    return lambda value: has_form(value, [form]) and 1 <= len(value) <= most
 
 
-def is_item(value):
-    return is_item_of_1(value) or has_form(value, ('b', [is_whole])) and value[1] != []
+CAUSE = any_of(*CAUSES)
+CYCLE = some_of((is_name_of_operation, CAUSE), 64)
+# items of a tree: a split, or a leaf that needs no bound; and in later versions those that do
+ITEM_OF_1 = any_of(is_whole, 'c', ('w', is_whole))
+ITEM = any_of(ITEM_OF_1, ('b', some_of(is_whole)))
+# an item of a refutation: a letter and what it speaks of, or a cycle
+INFERENCE = any_of(('c', is_byte_name), ('s', is_byte_name), ('o', is_byte_name, is_byte_name), ('d', is_whole),
+                   ('f', lambda hart: is_whole(hart, 256)), ('l', is_byte_name, is_byte_name),
+                   ('a', is_byte_name, is_byte_name), ('a', is_byte_name, is_byte_name, is_byte_name),
+                   some_of((is_byte_name, CAUSE), 64))
+ANSWER = any_of('none', {'cost': is_whole, 'fences': [str]})
+WITNESS = {'choices': [[any_of(bool, lambda choice: is_whole(choice, WORDS))]], 'order': [is_name_of_operation]}
+FILE = any_of(*[{'version': version, 'answer': ANSWER, 'cycles': [INFERENCE if version == 4 else CYCLE],
+                 'tree': [ITEM if version > 1 else ITEM_OF_1], 'witnesses': [WITNESS]} for version in (1, 2, 4)])
+SITES_FILE = {'version': 5, 'answer': ANSWER, 'cycles': [[INFERENCE]], 'tree': (),
+              'witnesses': [{**WITNESS, 'test': is_whole}]}
 
 
-INFERENCES = [('c', is_byte_name), ('s', is_byte_name), ('o', is_byte_name, is_byte_name), ('d', is_whole),
-              ('f', lambda hart: is_whole(hart, 256)), ('l', is_byte_name, is_byte_name),
-              ('a', is_byte_name, is_byte_name), ('a', is_byte_name, is_byte_name, is_byte_name)]
-
-
-def is_inference(value):
-    """An item of a refutation: a cycle, or a letter and what it speaks of."""
-    return (any(has_form(value, form) for form in INFERENCES)
-            or is_cycle(value) and all(is_byte_name(name) for name, cause in value))
-
-
-FENCED = {'cost': is_whole, 'fences': [str]}
-WITNESS = {'choices': [[lambda choice: type(choice) is bool or is_whole(choice, WORDS)]],
-           'order': [is_name_of_operation]}
-FILES = [{'version': version, 'answer': lambda answer: answer == 'none' or has_form(answer, FENCED),
-          'cycles': [is_inference if version == 4 else is_cycle],
-          'tree': [is_item if version > 1 else is_item_of_1], 'witnesses': [WITNESS]} for version in (1, 2, 4)]
-
-
-def certificate_of(data, forms=FILES):
-    """The certificate that these bytes are."""
+def certificate_of(data, of_sites=False):
+    """The certificate that these bytes are, or that over sites (CERTIFICATE 7)."""
     value = json_of(data)
-    if any(has_form(value, form) for form in forms):
+    if has_form(value, SITES_FILE if of_sites else FILE):
         return value
-    raise NotACertificate('fault F18 BadCertificate')
+    raise Fault('fault F18 BadCertificate')
 
 
 # --- Refutations (REFUTATIONS 1 to 4) ----------------------------------------------------------------------------
@@ -1065,20 +995,13 @@ class OnlyRun:
     """One run of a hart, whatever the others do. Its steps go by their names, which are hart and instruction."""
 
     def __init__(self, run, slots, placement):
-        self.registers = run.registers
-        self.steps = {(run.hart, step.position): step for step in run.steps}
-        self.operations = {(run.hart, operation.position): operation for operation in run.operations}
+        self.registers, self.steps = run.registers, {(run.hart, step.position): step for step in run.steps}
+        self.operations = {name: step for name, step in self.steps.items() if step.address is not None}
+        # by the name of an operation the address and the word that it loads, and that it stores
+        self.loads = {name: (it.address, it.loaded) for name, it in self.operations.items() if it.loads}
+        self.stores = {name: (it.address, it.stored) for name, it in self.operations.items() if it.stores}
         self.preserved = Preserved({}, slots, placement)
         self.rule = functools.cache(self.preserved.rule)    # of rules that ask for no source
-
-    def loads(self, name):
-        """The address and the word that the operation of this name loads; None where it is none that loads."""
-        operation = self.operations.get(name)
-        return (operation.address, operation.loaded) if operation and operation.loads else None
-
-    def stores(self, name):
-        operation = self.operations.get(name)
-        return (operation.address, operation.stored) if operation and operation.stores else None
 
     def choice(self, name):
         """What the run chooses there, as a number: first those that don't execute it; then, as in choice order, words
@@ -1103,17 +1026,11 @@ class OnlyRun:
         return self.preserved.rule(number, first, second)
 
 
-class Region(typing.NamedTuple):
+class Region(collections.namedtuple('Region', 'runs sources before wanted')):
     """For each hart the runs that are left; of some loads, by name, what they return from; pairs of stores, of which
     the first comes first in coherence order; and conditions, each with the truth value that it is to have."""
 
-    runs: list
-    sources: dict
-    before: frozenset
-    wanted: list
-
     def keeping(self, hart, passes):
-        """With those runs of the hart that pass."""
         left = [run for run in self.runs[hart] if passes(run)]
         return self._replace(runs=[*self.runs[:hart], left, *self.runs[hart + 1:]])
 
@@ -1139,55 +1056,55 @@ class Refutation:
     def after(self, region, inference):
         """The regions of which it refutes this one if all are refuted: none where the inference is an end."""
         letter, *rest = inference
-        parts = [self.named.get(part, NOWHERE) if type(part) is str else part for part in rest]
-        splits = {'c': self.by_choice, 's': self.by_source, 'o': self.by_order, 'd': self.by_cases,
-                  'f': self.by_outcome}
-        if type(letter) is str and letter in splits:
-            return splits[letter](region, *parts)
-        ends = {'l': self.is_stale, 'a': self.is_split_pair}
-        is_end = ends[letter](region, *parts) if type(letter) is str else self.is_cycle(region, inference)
+        match letter, *[self.named.get(part, NOWHERE) if type(part) is str else part for part in rest]:
+            case 'c', name:
+                ask(name is not NOWHERE, self.reason)
+                choices = sorted({run.choice(name) for run in region.runs[name[0]]})
+                return [region.keeping(name[0], lambda run, it=choice: run.choice(name) == it) for choice in choices]
+            case 's', load:
+                ask(load is not NOWHERE, self.reason)
+                known = region.sources.get(load)
+                stores = [store for store in self.names if store[0] != load[0] or store[1] < load[1]]
+                return [region.keeping(load[0], lambda run: load not in run.loads), *[
+                    self.from_source(region, load, it) for it in [INITIAL] + stores if known in (None, it)]]
+            case 'o', a, b:
+                places = {self.place(region, name, 'stores') for name in (a, b)}
+                is_open = a != b and len(places) == 1 and None not in places and not region.before & {(a, b), (b, a)}
+                ask(is_open, self.reason)
+                return [region._replace(before=region.before | {pair}) for pair in ((a, b), (b, a))]
+            case 'd', number:
+                # the wanted condition of this number gives way to its parts
+                ask(number < len(region.wanted) and region.wanted[number][0][0] in ('not', 'and', 'or'), self.reason)
+                (form, *parts), value = region.wanted[number]
+                wanted = [(part, value != (form == 'not')) for part in parts]       # of a denial one, in one way
+                ways = [wanted] if value == (form == 'and') else [[part] for part in wanted]
+                before, behind = region.wanted[:number], region.wanted[number + 1:]
+                return [region._replace(wanted=before + way + behind) for way in ways]
+            case 'f', hart:
+                return self.by_outcome(region, hart)
+            case 'l', load, store:
+                # the load returns from a store that one of its own hart, before the load, overwrites
+                is_end = store[0] == load[0] and store[1] < load[1] and self.overwrites(region, store, load)
+            case 'a', *names:
+                is_end = self.is_split_pair(region, *names)
+            case _:
+                links = [(self.named.get(text, NOWHERE), cause) for text, cause in inference]
+                is_end = all(self.is_edge(region, name, cause, following)
+                             for (name, cause), (following, _) in zip(links, links[1:] + links[:1]))
         ask(is_end, self.reason)
         return []
-
-    # Splits
-
-    def by_choice(self, region, name):
-        ask(name is not NOWHERE, self.reason)
-        choices = sorted({run.choice(name) for run in region.runs[name[0]]})
-        return [region.keeping(name[0], lambda run, it=choice: run.choice(name) == it) for choice in choices]
-
-    def by_source(self, region, load):
-        ask(load is not NOWHERE, self.reason)
-        known = region.sources.get(load)
-        stores = [store for store in self.names if store[0] != load[0] or store[1] < load[1]]
-        children = [self.from_source(region, load, source) for source in [INITIAL] + stores if known in (None, source)]
-        return [region.keeping(load[0], lambda run: run.loads(load) is None)] + children
 
     def from_source(self, region, load, source):
         """The load returns from this source: address and word agree."""
         decided = region._replace(sources={**region.sources, load: source})
         if source == INITIAL:
-            return decided.keeping(load[0], lambda run: run.loads(load) in self.test.words.items())
+            return decided.keeping(load[0], lambda run: run.loads.get(load) in self.test.words.items())
         if source[0] == load[0]:
-            return decided.keeping(load[0], lambda run: run.loads(load) and run.loads(load) == run.stores(source))
-        stored = {run.stores(source) for run in region.runs[source[0]]} - {None}
-        loaded = {run.loads(load) for run in region.runs[load[0]]} - {None}
-        return decided.keeping(load[0], lambda run: run.loads(load) in stored).keeping(
-            source[0], lambda run: run.stores(source) in loaded)
-
-    def by_order(self, region, a, b):
-        places = {self.place(region, name, OnlyRun.stores) for name in (a, b)}
-        is_open = a != b and len(places) == 1 and None not in places and not region.before & {(a, b), (b, a)}
-        ask(is_open, self.reason)
-        return [region._replace(before=region.before | {pair}) for pair in ((a, b), (b, a))]
-
-    def by_cases(self, region, number):
-        """The wanted condition of this number gives way to its parts."""
-        ask(number < len(region.wanted) and region.wanted[number][0][0] in ('not', 'and', 'or'), self.reason)
-        (form, *parts), value = region.wanted[number]
-        wanted = [(part, value != (form == 'not')) for part in parts]       # of a denial one, in one way
-        ways = [wanted] if value == (form == 'and') else [[part] for part in wanted]
-        return [region._replace(wanted=region.wanted[:number] + way + region.wanted[number + 1:]) for way in ways]
+            return decided.keeping(load[0], lambda run: load in run.loads and run.loads[load] == run.stores.get(source))
+        stored = {run.stores.get(source) for run in region.runs[source[0]]} - {None}
+        loaded = {run.loads.get(load) for run in region.runs[load[0]]} - {None}
+        return decided.keeping(load[0], lambda run: run.loads.get(load) in stored).keeping(
+            source[0], lambda run: run.stores.get(source) in loaded)
 
     def by_outcome(self, region, hart):
         """Of the hart's runs those with each of which the wanted conditions may have their truth values."""
@@ -1195,80 +1112,55 @@ class Refutation:
 
         def may_be(run):
             alone = region.keeping(hart, lambda other: other is run)
-            return all(self.may(alone, condition, value) for condition, value in region.wanted)
+            return all(value in truths(condition, functools.partial(self.truths_of_atom, alone))
+                       for condition, value in region.wanted)
 
         return [region.keeping(hart, may_be)]
 
     # What may be in some candidate of a region
 
-    def may(self, region, condition, value):
-        """May the condition have this truth value?"""
-        match condition:
-            case 'constant', known:
-                return known == value
-            case 'register', (hart, register), word:
-                return any((run.registers[register] == word) == value for run in region.runs[hart])
-            case 'word', address, word:
-                return any((last == word) == value for last in self.last_words(region, address))
-            case 'not', part:
-                return self.may(region, part, not value)
-        parts = [self.may(region, part, value) for part in condition[1:]]
-        return all(parts) if value == (condition[0] == 'and') else any(parts)
-
-    def last_words(self, region, address):
-        """The words with which the location may end."""
-        if not any(self.place(region, name, OnlyRun.stores) == address for name in self.names):
-            yield self.test.words[address]
+    def truths_of_atom(self, region, kind, place, word):
+        if kind == 'register':
+            return {run.registers[place[1]] == word for run in region.runs[place[0]]}
         earlier = {first for first, second in region.before}
-        for name in self.names:
-            if name not in earlier:
-                stored = [run.stores(name) for run in region.runs[name[0]]]
-                yield from (word for place, word in filter(None, stored) if place == address)
+        stored = [run.stores[name] for name in self.names if name not in earlier
+                  for run in region.runs[name[0]] if name in run.stores]
+        last = {found for address, found in stored if address == place}
+        if not any(self.place(region, name, 'stores') == place for name in self.names):
+            last.add(self.test.words[place])
+        return {found == word for found in last}
 
     # What must be in each candidate of a region
 
     def place(self, region, name, access):
-        """The address that the operation of this name accesses in each run that is left, or None."""
-        if name is NOWHERE:
-            return None
-        found = {access(run, name) and access(run, name)[0] for run in region.runs[name[0]]}
+        """The address to which the operation of this name has such an access in each run that is left, or None."""
+        found = {getattr(run, access).get(name, (None, None))[0] for run in region.runs[name[0]]}
         return found.pop() if len(found) == 1 else None
 
     def overwrites(self, region, store, load):
         """Is the store later in coherence order than what the load returns from?"""
         source = region.sources.get(load)
         if source == INITIAL:
-            place = self.place(region, store, OnlyRun.stores)
-            return place is not None and place == self.place(region, load, OnlyRun.loads)
+            place = self.place(region, store, 'stores')
+            return place is not None and place == self.place(region, load, 'loads')
         return source is not None and (source, store) in region.before
 
-    def has_rule(self, region, number, a, b):
-        """Does the rule put a before b in each run that is left of their hart?"""
-        if a[0] != b[0] or a is NOWHERE:
-            return False
-        if number == 2 and (a not in region.sources or b not in region.sources):
-            return False
-        return all(run.has_rule(number, a, b, region.sources) for run in region.runs[a[0]])
-
     def is_edge(self, region, a, cause, b):
-        if cause.startswith('p'):
-            return self.has_rule(region, int(cause[1:]), a, b)
-        if cause == 'rf':
-            return a[0] != b[0] and region.sources.get(b) == a
-        return (a, b) in region.before if cause == 'co' else a != b and self.overwrites(region, b, a)
-
-    def is_cycle(self, region, cycle):
-        links = [(self.named.get(text, NOWHERE), cause) for text, cause in cycle]
-        return all(self.is_edge(region, name, cause, links[(at + 1) % len(links)][0])
-                   for at, (name, cause) in enumerate(links))
-
-    def is_stale(self, region, load, store):
-        """The load returns from a store that one of its own hart, before the load, overwrites."""
-        return store[0] == load[0] and store[1] < load[1] and self.overwrites(region, store, load)
+        """Is a before b for this cause: of a rule, in each run that is left of their hart?"""
+        match cause:
+            case 'rf':
+                return a[0] != b[0] and region.sources.get(b) == a
+            case 'co':
+                return (a, b) in region.before
+            case 'fr':
+                return a != b and self.overwrites(region, b, a)
+        is_known = cause != 'p2' or {a, b} <= region.sources.keys()
+        return a[0] == b[0] and a is not NOWHERE and is_known and all(
+            run.has_rule(int(cause[1:]), a, b, region.sources) for run in region.runs[a[0]])
 
     def is_split_pair(self, region, lr, sc, other=None):
         """The sc.w of the pair is before what its lr.w returns from, or another hart's store is between the two."""
-        if not self.has_rule(region, 8, lr, sc):
+        if not self.is_edge(region, lr, 'p8', sc):
             return False
         if other is None:
             source = region.sources.get(lr)
@@ -1286,78 +1178,113 @@ def completed(part, kind):
     return tuple(kind if decision == UNDECIDED else decision for decision in part)
 
 
-def is_earlier(p, q):
-    """At the first slot where they differ, does p have none, or the kind that stands earlier in the table?"""
-    order = [None] + KINDS
-    return [order.index(kind) for kind in p] < [order.index(kind) for kind in q]
-
-
-def fence_lines(slots, placement):
-    return ['fence P%d %d %s' % (slot + (kind,)) for slot, kind in zip(slots, placement) if kind is not None]
-
-
 class Checker:
-    """A test, a price list and a certificate file. The checks raise Refused with the first reason."""
+    """Tests, each with its path and its places for fences, slots with names, a price list, and a certificate file. A
+    placement has a kind or None for each name, for all its places. The checks raise Refused with the first reason."""
 
-    def __init__(self, test, prices, certificate):
-        self.test, self.prices, self.slots = test, prices, test.slots()
-        self.certificate, self.version = certificate, certificate['version']
+    def __init__(self, tests, places, prices, certificate, is_alone):
+        self.paths, self.tests = [path for path, _ in tests], [test for _, test in tests]
+        self.places, self.prices, self.certificate, self.is_alone = places, prices, certificate, is_alone
+        self.names = list(dict.fromkeys(name for each in places for _, name in each))
+        self.costs = [{None: 0, **{kind: prices.at(name, kind) for kind in prices.offered}} for name in self.names]
         self.execution, self.shown = functools.cache(self.execution), functools.cache(self.shown)
-        self.answer = self.cost = None
+        self.answer = None
 
     def check(self):
         if self.certificate['answer'] == 'none':
-            self.check_none()
+            # one witness, which shows the outcome of its test with `rw,rw` in every place
+            parts = [self.certificate[part] for part in ('cycles', 'tree', 'witnesses')]
+            ask([len(part) for part in parts] == [0, 0, 1], 'answer')
+            self.shown(0, ('rw,rw',) * len(self.names))
         else:
             self.check_answer()
             self.check_cycles()
-            self.check_tree()
 
-    def check_none(self):
-        """One witness, which shows the outcome with `rw,rw` in every slot."""
-        parts = [self.certificate[part] for part in ('cycles', 'tree', 'witnesses')]
-        ask([len(part) for part in parts] == [0, 0, 1], 'answer')
-        self.shown(0, ('rw,rw',) * len(self.slots))
+    def image(self, number, placement):
+        """The slots of a test's places, and the kind at each."""
+        kinds = dict(zip(self.names, placement))
+        return [slot for slot, _ in self.places[number]], [kinds[name] for _, name in self.places[number]]
+
+    def test_of(self, number):
+        """The number of the test of this witness."""
+        return self.certificate['witnesses'][number].get('test', 0)
+
+    def execution(self, number):
+        witnesses = self.certificate['witnesses']
+        if number < len(witnesses) and self.test_of(number) < len(self.tests):
+            return execution_of(self.tests[self.test_of(number)], witnesses[number])
+        return None
+
+    def shown(self, number, placement):
+        """The execution of this witness, which must show the outcome of its test under this placement."""
+        execution = self.execution(number)
+        ask(execution and execution.obeys_axioms(*self.image(self.test_of(number), placement))
+            and execution.has_outcome(), 'witness %d' % number)
+        return execution
+
+    def cost(self, placement):
+        return sum(costs[kind] for costs, kind in zip(self.costs, placement))
+
+    def fences(self):
+        """The names that have a fence in the answer, each with its kind."""
+        return [(name, kind) for name, kind in zip(self.names, self.answer) if kind is not None]
+
+    def claim(self):
+        """The answer as a certificate says it."""
+        return {'cost': self.cost(self.answer), 'fences': ['%s=%s' % fence for fence in self.fences()]}
+
+    def lines(self):
+        if self.answer is None:
+            witness = self.certificate['witnesses'][0]
+            said = json.dumps({key: witness[key] for key in ('choices', 'order')}, separators=(',', ':'))
+            return ['none'] + [self.paths[self.test_of(0)]] * (not self.is_alone) + [said]
+        # of one test alone a place may be a slot
+        return ['fenced %d' % self.cost(self.answer)] + [
+            'fence %s %s %s' % (*name.split(':'), kind) if self.is_alone and ':' in name else f'site {name} {kind}'
+            for name, kind in self.fences()]
+
+
+class TreeChecker(Checker):
+    """The checker for one test, whose places are its slots."""
+
+    def __init__(self, test, prices, certificate):
+        places = [(slot, 'P%d:%d' % slot) for slot in test.slots()]
+        super().__init__([('', test)], [places], prices, certificate, True)
+        self.test, self.version = test, certificate['version']
+
+    def check(self):
+        super().check()
+        if self.answer is not None:
+            self.check_tree()
 
     def check_answer(self):
         """The fences are a placement of offered kinds, in slot order, and cost what is said."""
-        claim = self.certificate['answer']
-        kinds = dict(text.partition('=')[::2] for text in claim['fences'])
-        self.answer, self.cost = tuple(kinds.get('P%d:%d' % slot) for slot in self.slots), claim['cost']
-        fences = ['P%d:%d=%s' % (*slot, kind) for slot, kind in zip(self.slots, self.answer) if kind is not None]
-        ask(fences == claim['fences'] and {*kinds.values()} <= {*self.prices.offered}
-            and self.prices.cost(self.slots, self.answer) == self.cost, 'answer')
+        kinds = dict(text.partition('=')[::2] for text in self.certificate['answer']['fences'])
+        self.answer = tuple(map(kinds.get, self.names))
+        ask({*kinds.values()} <= {*self.prices.offered} and self.certificate['answer'] == self.claim(), 'answer')
 
     def check_cycles(self):
         """One cycle for each candidate that shows the outcome, in the candidates' order."""
-        cycles = self.certificate['cycles']
+        cycles, image = self.certificate['cycles'], self.image(0, self.answer)
         if self.version == 4:
-            Refutation(self.test, self.slots, self.answer).check(cycles)
+            Refutation(self.test, *image).check(cycles)
             return
         # One more than there are cycles is enough to see that there are too few.
         showing = list(itertools.islice(candidates(self.test), len(cycles) + 1))
         ask(len(showing) == len(cycles), 'cycles')
         for number, (candidate, cycle) in enumerate(zip(showing, cycles)):
-            ask(self.is_cycle_of(candidate, cycle), 'cycle %d' % number)
-
-    def is_cycle_of(self, candidate, cycle):
-        """Is each operation before the next one, and the last before the first, under the answer and for its cause?"""
-        named = candidate.operations.named
-        if not all(name in named for name, _ in cycle):
-            return False
-        preserved = Preserved(candidate.rf, self.slots, self.answer)
-        following = cycle[1:] + cycle[:1]
-        return all(candidate.is_edge(preserved, named[name], cause, named[next_name])
-                   for (name, cause), (next_name, _) in zip(cycle, following))
+            ask(candidate.has_cycle(Preserved(candidate.rf, *image), cycle), 'cycle %d' % number)
 
     def check_tree(self):
         """The items are one whole tree in preorder, and each leaf is closed."""
-        nodes = [(UNDECIDED,) * len(self.slots)]        # those still to come, the next one last
+        nodes = [(UNDECIDED,) * len(self.names)]        # those still to come, the next one last
         for number, item in enumerate(self.certificate['tree']):
             ask(nodes, 'tree')
             part = nodes.pop()
             if type(item) is int:
-                nodes += reversed(self.children(part, item))
+                # split at this slot: none first, and then the offered kinds
+                ask(item < len(part) and part[item] == UNDECIDED, 'tree')
+                nodes += [part[:item] + (decision,) + part[item + 1:] for decision in reversed(self.costs[item])]
             elif item == 'c':
                 ask(not self.is_better(completed(part, None)), 'node %d' % number)
             elif item[0] == 'w':
@@ -1367,124 +1294,62 @@ class Checker:
                 ask(self.bound(part, executions), 'node %d' % number)
         ask(not nodes, 'tree')
 
-    def children(self, part, slot):
-        """The children of a node that is split at this slot: none first, and then the offered kinds."""
-        ask(slot < len(part) and part[slot] == UNDECIDED, 'tree')
-        return [part[:slot] + (decision,) + part[slot + 1:] for decision in [None] + self.prices.offered]
-
-    def is_better(self, floor):
-        """Is this placement better than the answer? In version 1: is it cheaper?"""
-        cost = self.prices.cost(self.slots, floor)
-        return cost < self.cost or self.version > 1 and cost == self.cost and is_earlier(floor, self.answer)
-
-    def execution(self, number):
-        """The execution of this witness, or None."""
-        witnesses = self.certificate['witnesses']
-        return execution_of(self.test, witnesses[number]) if number < len(witnesses) else None
-
-    def shown(self, number, placement):
-        """The execution of this witness, which must show the outcome under this placement."""
-        execution = self.execution(number)
-        ask(execution and execution.obeys_axioms(self.slots, placement) and execution.has_outcome(),
-            'witness %d' % number)
-        return execution
-
-    def breaks_of(self, part, execution):
-        """The breakable slots of a leaf and an execution, each with the least price of a kind that breaks it there."""
-        found = {}
-        for slot, decision in zip(self.slots, part):
-            if decision == UNDECIDED:
-                width = execution.width(slot)
-                prices = [self.prices.at(slot, kind) for kind in self.prices.offered if not PAIRS[kind] <= width]
-                if prices:
-                    found[slot] = min(prices)
-        return found
+    def is_better(self, floor, more=0):
+        """Is this placement, at so much more, better than the answer: cheaper, or since version 2 as cheap, and at the
+        first slot where they differ it has none, or the kind that stands earlier in the table?"""
+        order = [None] + KINDS
+        (cost, kinds), (least, others) = [(self.cost(it), [*map(order.index, it)]) for it in (floor, self.answer)]
+        return cost + more < least or self.version > 1 and cost + more == least and kinds < others
 
     def bound(self, part, executions):
-        """Do these executions bound the leaf (CERTIFICATE 4)?"""
-        breaks = [self.breaks_of(part, execution) for execution in executions]
-        slots = [slot for each in breaks for slot in each]
+        """Do these executions bound the leaf (CERTIFICATE 4)? Each counts with the least price of a kind that breaks it
+        in one of its breakable slots, and no slot is breakable for two."""
+        breaks, slots = [], []
+        for execution in executions:
+            breaks.append([])
+            for (slot, _), costs, decision in zip(self.places[0], self.costs, part):
+                width = execution.width(slot) if decision == UNDECIDED else set(ALL_PAIRS)
+                prices = [price for kind, price in costs.items() if not PAIRS[kind] <= width]
+                breaks[-1] += prices
+                slots += [slot] * bool(prices)
         if len(slots) != len(set(slots)):
             return False
-        if not all(breaks):
-            return True
-        floor = completed(part, None)
-        lower_bound = self.prices.cost(self.slots, floor) + sum(min(each.values()) for each in breaks)
-        return lower_bound > self.cost or lower_bound == self.cost and not is_earlier(floor, self.answer)
-
-    def lines(self):
-        """The lines of the answer."""
-        if self.answer is None:
-            witness = {key: self.certificate['witnesses'][0][key] for key in ('choices', 'order')}
-            return ['none', json.dumps(witness, separators=(',', ':'))]
-        return ['fenced %d' % self.cost] + fence_lines(self.slots, self.answer)
+        return not all(breaks) or not self.is_better(completed(part, None), sum(map(min, breaks)))
 
 
 # --- Certificates over sites (FORMAT 21, CERTIFICATE 7) -----------------------------------------------------------
 
-SITES_FILE = {'version': 5, 'answer': lambda answer: answer == 'none' or has_form(answer, FENCED),
-              'cycles': [[is_inference]], 'tree': lambda tree: tree == [], 'witnesses': [{**WITNESS, 'test': is_whole}]}
-
-
-def sites_certificate_of(data):
-    return certificate_of(data, [SITES_FILE])
-
-
-def site_name(label):
-    """The label without digits and `_` at its end, or all of it where nothing else is there."""
-    return label.rstrip('0123456789_') or label
-
-
 def places_of(test, prefix=None):
-    """The copies of sites in this test: the slot of each, hart and instruction, and the name of its site. With a prefix
-    each slot at which no label names a site is one of its own, whose name it begins."""
-    found = []
-    for hart, cells in enumerate(test.columns):
-        ends, position = {words[-1] for words, _ in cells if words}, 0
-        for words, lines in cells:
-            at = 0
-            while words[at + 1:at + 2] == [':'] and (is_name(words[at]) or is_number(words[at])):
-                if is_name(words[at]) and words[at] not in ends:
-                    if found and found[-1][0] == (hart, position):
-                        raise Fault('fault F6 BadLabel line %d' % lines[at])
-                    found.append(((hart, position), site_name(words[at])))
-                at += 2
-            position += at < len(words)
+    """The copies of sites in this test: the slot of each, hart and instruction, and the name of its site, which is the
+    label without digits and `_` at its end, or all of it where nothing else is there. With a prefix each slot at which
+    no label names a site is one of its own, whose name it begins."""
+    found = {}
+    for hart, (position, label, line) in ((hart, mark) for hart, marks in enumerate(test.labels) for mark in marks):
+        if (hart, position) in found:
+            raise Fault('fault F6 BadLabel line %d' % line)
+        found[hart, position] = label.rstrip('0123456789_') or label
     own = test.slots() if prefix is not None else []
-    return sorted({**{slot: '%sP%d:%d' % (prefix, *slot) for slot in own}, **dict(found)}.items())
+    return sorted({**{slot: '%sP%d:%d' % (prefix, *slot) for slot in own}, **found}.items())
 
 
-def site_prices_of(data):
-    """The price list that these bytes are, with weights by names of sites."""
-    return prices_of(data, of_sites=True)
-
-
-class SitesChecker:
-    """Tests, each with its path, a price list and a certificate file; may slots be sites of their own? The checks raise
-    Refused with a reason. A placement is a tuple with a kind or None for each site."""
+class SitesChecker(Checker):
+    """The checker for the sites of several tests; may slots be sites of their own?"""
 
     def __init__(self, tests, prices, certificate, is_free=False):
-        self.paths, self.tests = [path for path, _ in tests], [test for _, test in tests]
-        self.certificate, self.is_alone = certificate, is_free and len(tests) == 1
-        prefixes = [f'{path}:' if len(tests) > 1 else '' for path in self.paths]
-        self.places = [places_of(test, prefix if is_free else None) for test, prefix in zip(self.tests, prefixes)]
-        self.names = list(dict.fromkeys(name for places in self.places for _, name in places))
-        self.costs = [{None: 0, **{kind: prices.at(name, kind) for kind in prices.offered}} for name in self.names]
-        self.answer = None
+        prefixes = [(f'{path}:' if len(tests) > 1 else '') if is_free else None for path, _ in tests]
+        places = [places_of(test, prefix) for (_, test), prefix in zip(tests, prefixes)]
+        super().__init__(tests, places, prices, certificate, is_free and len(tests) == 1)
 
-    def check(self):
-        if self.certificate['answer'] == 'none':
-            self.check_none()
-        else:
-            bars = [self.bar(number) for number in range(len(self.certificate['witnesses']))]
-            self.answer = self.cheapest(bars)
-            ask(self.answer is not None and self.certificate['answer'] == self.claim(), 'answer')
-            self.check_cycles()
-
-    def check_none(self):
-        """One witness, which shows the outcome of its test with `rw,rw` at every site."""
-        ask(not self.certificate['cycles'] and len(self.certificate['witnesses']) == 1, 'answer')
-        self.shown(0, ('rw,rw',) * len(self.names))
+    def check_answer(self):
+        """It is the first cheapest one that breaks all executions of the witnesses: each at a place in its test."""
+        broken, count = [dict.fromkeys(costs, 0) for costs in self.costs], len(self.certificate['witnesses'])
+        for number in range(count):
+            execution = self.shown(number, (None,) * len(self.names))
+            for slot, name in self.places[self.test_of(number)]:
+                breaks, width = broken[self.names.index(name)], execution.width(slot)
+                breaks.update({kind: breaks[kind] | 1 << number for kind in breaks if not PAIRS[kind] <= width})
+        self.answer = cheapest(self.costs, broken, (1 << count) - 1)
+        ask(self.answer is not None and self.certificate['answer'] == self.claim(), 'answer')
 
     def check_cycles(self):
         """For each test a refutation of it under the answer."""
@@ -1496,108 +1361,73 @@ class SitesChecker:
             except Refused:
                 raise Refused('cycles %d' % number)
 
-    def image(self, number, placement):
-        """The slots of a test's places, and the kind at each."""
-        kinds = dict(zip(self.names, placement))
-        return [slot for slot, _ in self.places[number]], [kinds[name] for _, name in self.places[number]]
 
-    def shown(self, number, placement):
-        """The execution of this witness, which must show the outcome of its test under this placement."""
-        witness = self.certificate['witnesses'][number]
-        ask(witness['test'] < len(self.tests), 'witness %d' % number)
-        execution = execution_of(self.tests[witness['test']], witness)
-        ask(execution and execution.obeys_axioms(*self.image(witness['test'], placement)) and execution.has_outcome(),
-            'witness %d' % number)
-        return execution
-
-    def bar(self, number):
-        """For each site the pairs that a fence may have at all its places in the witness's test and break nothing."""
-        execution = self.shown(number, (None,) * len(self.names))
-        bar = {name: set(ALL_PAIRS) for name in self.names}
-        for slot, name in self.places[self.certificate['witnesses'][number]['test']]:
-            bar[name] &= execution.width(slot)
-        return [bar[name] for name in self.names]
-
-    def cheapest(self, bars):
-        """The first of the cheapest placements that break each bar, or None. Of the ways to fill the first sites that
-        leave the same bars unbroken it goes on from the first cheapest alone."""
-        every, best = frozenset(range(len(bars))), {frozenset(range(len(bars))): (0, ())}
-        stays = [{kind: frozenset(bar for bar in every if kind is None or PAIRS[kind] <= bars[bar][site])
-                  for kind in self.costs[site]} for site in range(len(self.names))]
-        for site, costs in enumerate(self.costs):
-            lost = every.intersection(*[left for later in stays[site + 1:] for left in later.values()])
-            wider = {}
-            for (left, (cost, chosen)), (number, (kind, price)) in itertools.product(
-                    best.items(), enumerate(costs.items())):
-                after, found = left & stays[site][kind], (cost + price, (*chosen, number))
-                if not after & lost:
-                    wider[after] = min(found, wider.get(after, found))
-            best = wider
-        if frozenset() not in best:
-            return None
-        return tuple(list(costs)[number] for costs, number in zip(self.costs, best[frozenset()][1]))
-
-    def fences(self):
-        """The sites that have a fence in the answer, each with its kind."""
-        return [(name, kind) for name, kind in zip(self.names, self.answer) if kind]
-
-    def claim(self):
-        """The answer as a certificate says it."""
-        cost = sum(costs[kind] for costs, kind in zip(self.costs, self.answer))
-        return {'cost': cost, 'fences': ['%s=%s' % fence for fence in self.fences()]}
-
-    def lines(self):
-        """The lines of the answer."""
-        if self.answer is None:
-            witness = self.certificate['witnesses'][0]
-            said = json.dumps({key: witness[key] for key in ('choices', 'order')}, separators=(',', ':'))
-            return ['none'] + [self.paths[witness['test']]] * (not self.is_alone) + [said]
-        return ['fenced %d' % self.claim()['cost']] + [self.line(*fence) for fence in self.fences()]
-
-    def line(self, name, kind):
-        """The line of a site, which of one test alone may be a slot's."""
-        return 'fence %s %s %s' % (*name.split(':'), kind) if self.is_alone and ':' in name else f'site {name} {kind}'
+def cheapest(costs, broken, every):
+    """The first of the cheapest placements that break all of some executions, which are the bits of `every`, or None.
+    Of each place it gets what each option costs there, and which executions it breaks. Of the ways to fill the first
+    places that leave the same executions unbroken it goes on from the first cheapest alone."""
+    best = {every: (0, ())}             # by what is unbroken the cost, and the numbers of the options
+    for at, breaks in enumerate(broken):
+        ways = {}                       # by what breaks, the price and the number of the first cheapest option
+        for number, (kind, price) in enumerate(costs[at].items()):
+            ways[breaks[kind]] = min((price, number), ways.get(breaks[kind], (price, number)))
+        later = functools.reduce(operator.or_, [bits for each in broken[at + 1:] for bits in each.values()], 0)
+        wider = {}
+        for (left, (cost, chosen)), (bits, (price, number)) in itertools.product(best.items(), ways.items()):
+            left, found = left & ~bits, (cost + price, (*chosen, number))
+            if not left & ~later:
+                wider[left] = min(found, wider.get(left, found))
+        best = wider
+    return tuple(list(each)[number] for each, number in zip(costs, best[0][1])) if 0 in best else None
 
 
-def read(path, reader):
-    """What this reader makes of the file."""
+def read(path, reader, *options):
     try:
         with open(path, 'rb') as file:
-            return reader(file.read())
+            return reader(file.read(), *options)
     except (OSError, ValueError, RecursionError, MemoryError, Unreadable) as error:
         raise Unreadable('%s can not be read: %s' % (path, error))
 
 
-def checker_of(words, is_sites, is_free):
-    """The checker of the files that these words name."""
-    *tests, prices, certificate = words
-    if not is_sites:
-        test = read(tests[0], test_of)
-        return Checker(test, read(prices, prices_of), read(certificate, certificate_of))
-    found = [(path, read(path, test_of)) for path in tests]
-    return SitesChecker(found, read(prices, site_prices_of), read(certificate, sites_certificate_of), is_free)
+Said = collections.namedtuple('Said', 'out err status')         # what is to be printed, and the status
+
+
+class Judge:
+    """Judges certificates for a test, or for the sites of tests, and a price list, whose files are read once."""
+
+    def __init__(self, tests, prices, is_sites=False, is_free=False):
+        self.tests, self.prices = [(path, read(path, test_of)) for path in tests], read(prices, prices_of, is_sites)
+        self.is_sites, self.is_free = is_sites, is_free
+
+    def verdict(self, data):
+        """What is to be said of these bytes."""
+        try:
+            certificate = certificate_of(data, self.is_sites)
+            checker = (SitesChecker(self.tests, self.prices, certificate, self.is_free) if self.is_sites
+                       else TreeChecker(self.tests[0][1], self.prices, certificate))
+            checker.check()
+            return Said('\n'.join(['yes', *checker.lines(), '']), '', 0)
+        except Refused as reason:
+            return Said('no: %s\n' % reason, '', 1)
+        except Unreadable as error:
+            return Said('', ascii(str(error))[1:-1] + '\n', 2)
+        except (RecursionError, MemoryError):
+            return Said('', 'the test is too big\n', 2)
 
 
 def main(arguments):
     words = [word for word in arguments if word not in ('--sites', '--free')]
     is_sites, is_free = '--sites' in arguments, '--free' in arguments
-    if len(words) < 3 or not is_sites and (is_free or len(words) > 3):
-        print('usage: check_certificate.py TEST PRICES CERTIFICATE\n'
-              '       check_certificate.py --sites [--free] FILE.. PRICES CERTIFICATE', file=sys.stderr)
-        return 2
-    try:
-        checker = checker_of(words, is_sites, is_free)
-        checker.check()
-        print('\n'.join(['yes'] + checker.lines()))
-        return 0
-    except Refused as reason:
-        print('no: %s' % reason)
-        return 1
-    except (NotACertificate, Unreadable) as error:
-        print(ascii(str(error))[1:-1], file=sys.stderr)
-    except (RecursionError, MemoryError):
-        print('the test is too big', file=sys.stderr)
-    return 2
+    out, error, status = '', ('usage: check_certificate.py TEST PRICES CERTIFICATE\n'
+                              '       check_certificate.py --sites [--free] FILE.. PRICES CERTIFICATE\n'), 2
+    if len(words) == 3 and not is_free or len(words) >= 3 and is_sites:
+        try:
+            out, error, status = Judge(words[:-2], words[-2], is_sites, is_free).verdict(read(words[-1], bytes))
+        except Unreadable as fault:
+            error = ascii(str(fault))[1:-1] + '\n'
+    sys.stdout.write(out)
+    sys.stderr.write(error)
+    return status
 
 
 if __name__ == '__main__':

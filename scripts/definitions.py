@@ -73,8 +73,7 @@ def imports_of(file):
 @functools.cache
 def items_of(file):
     """Under which definition of a file each name stands, such as a constructor's; and the lines of each definition."""
-    owners, lines, module = {}, {}, ""
-    text = IMPORT.sub("", text_of(file))
+    owners, lines, module, text = {}, {}, "", IMPORT.sub("", text_of(file))
     for part in COMMENT.sub("", text).replace("\n\n\n", "\n\n").split("\n\n"):
         found = MODULE.search(part)
         module = found[0].strip() if found else module
@@ -116,16 +115,6 @@ def type_lines(file, name):
     return [it for it in lines[first:last + 1] if it.strip() and not re.match(r"\s*(?://|#\[)", it)]
 
 
-def types_named(file, lines):
-    """The types of the repository that a type's fields name."""
-    crate = file.split("/")[1]
-    for name in set(re.findall(r"\b[A-Z]\w*\b", "\n".join(lines[1:] or lines))) - PLAIN_TYPES:
-        used = re.search(USE.format(name, name), text_of(file), re.M)
-        home = f"crates/{crate if not used or used[1] == 'crate' else used[1]}/src"
-        there = [f"{home}/{it}" for it in sorted(os.listdir(f"{TOP}/{home}"))] if used else [file]
-        yield from ((it, name) for it in there if it.endswith(".rt") and type_lines(it, name))
-
-
 def named_in(file, text):
     """What the names of a text mean that stands in this file."""
     names, modules, _ = imports_of(file)
@@ -142,31 +131,29 @@ def named_in(file, text):
 
 @functools.cache
 def rests_on(node):
-    """What a definition or a type names."""
+    """What a definition names, or a type by its fields."""
     file, name = node
-    if file.endswith(".rt"):
-        return set(types_named(file, type_lines(file, name)))
-    return set(filter(None, named_in(file, "\n".join(items_of(file)[1][name]))))
+    if not file.endswith(".rt"):
+        return set(filter(None, named_in(file, "\n".join(items_of(file)[1][name]))))
+    lines, crate, found = type_lines(file, name), file.split("/")[1], set()
+    for other in set(re.findall(r"\b[A-Z]\w*\b", "\n".join(lines[1:] or lines))) - PLAIN_TYPES:
+        used = re.search(USE.format(other, other), text_of(file), re.M)
+        home = f"crates/{crate if not used or used[1] == 'crate' else used[1]}/src"
+        there = [f"{home}/{it}" for it in os.listdir(f"{TOP}/{home}")] if used else [file]
+        found.update((it, other) for it in there if it.endswith(".rt") and type_lines(it, other))
+    return found
 
 
-def contract_of(path, function):
-    """What the contract of the first function of this name in the file below crates/ names."""
-    file = f"crates/{path}"
-    found = re.search(rf"^( *)(?:pub )?fn {function}\b(?:.*\n)+?\1\{{(?:\}}| |$)", text_of(file), re.M)
-    named = set(filter(None, named_in(file, found[0]))) if found else set()
-    return named or sys.exit(f"definitions: {file} has no contract of {function}")
-
-
-def needed_by(name):
-    """All definitions and types that the contracts of this name rest on, or the definitions in `MEANINGS`."""
-    if name in MEANINGS:
-        nodes = {it[0]: node_of(*it[0].split()) for it in MEANINGS[name]}
-        return reached((nodes[it] or sys.exit(f"definitions: there is no {it}") for it in nodes), rests_on)
-    return reached((it for words, in CONTRACTS[name] for it in contract_of(*words.split())), rests_on)
-
-
-def all_needed(names):
-    return {it for name in names for it in needed_by(name)}
+def needed_by(*names):
+    """All definitions and types that the contracts of these names rest on, or the definitions in `MEANINGS`."""
+    found = {it[0]: {node_of(*it[0].split())} for name in names for it in MEANINGS.get(name, [])}
+    # a file below crates/, and the first function of this name there
+    for words, in itertools.chain(*[CONTRACTS.get(name, []) for name in names]):
+        file, function = f"crates/{words}".split()
+        contract = re.search(rf"^( *)(?:pub )?fn {function}\b(?:.*\n)+?\1\{{(?:\}}| |$)", text_of(file), re.M)
+        found[words] = set(named_in(file, contract[0])) if contract else set()
+    nodes = [found[it] - {None} or sys.exit(f"definitions: there is no {it}, or it has no contract") for it in found]
+    return reached(itertools.chain(*nodes), rests_on)
 
 
 def size_of(nodes):
@@ -176,5 +163,4 @@ def size_of(nodes):
 
 def lines_by_file(nodes):
     """For each file, how many lines the definitions or types in it have that are among these."""
-    by_file = itertools.groupby(sorted(nodes), key=lambda node: node[0])
-    return {file: size_of(here) for file, here in by_file}
+    return {file: size_of(here) for file, here in itertools.groupby(sorted(nodes), key=lambda node: node[0])}

@@ -13,9 +13,7 @@ from running import EXAMPLES, PRICE_LISTS, read
 LOCATIONS = {'x6': 'x', 'x8': 'y', 'x10': 'z'}                 # which register has whose address
 WORDS = {'x5': 1, 'x7': 2}
 ANNOTATIONS = [''] * 4 + ['.aq', '.rl', '.aqrl']
-FENCES = ['fence %s' % kind for kind in model.KINDS if kind != 'tso'] + ['fence.tso', 'fence']
-MOST_CANDIDATES = 300
-MOST_PLACEMENTS = 20000
+MOST_CANDIDATES, MOST_PLACEMENTS = 300, 20000
 
 
 def test_text(name, entries, harts, condition):
@@ -25,12 +23,19 @@ def test_text(name, entries, harts, condition):
     return "\n".join([f"RISCV {name}", "{", *entries, "}", header, *rows, condition, ""])
 
 
+def fence_of(kind):
+    """The FENCE of this kind; of None nothing."""
+    return 'fence.tso' if kind == 'tso' else f'fence {kind}' if kind else ''
+
+
+FENCES = [*map(fence_of, model.KINDS), 'fence']
+
+
 class Code:
     """The code of a hart in the making."""
 
     def __init__(self, chance, locations):
-        self.choice, self.random = chance.choice, chance.random
-        self.addresses = sorted(LOCATIONS)[:locations]
+        self.choice, self.random, self.addresses = chance.choice, chance.random, sorted(LOCATIONS)[:locations]
         self.cells, self.accesses = [], 0
         self.loaded = []                # the registers that loads have written
 
@@ -103,25 +108,12 @@ class Maker:
     """Makes the test and the prices of a number."""
 
     def __init__(self, number):
-        self.chance = random.Random('solve %d' % number)
-        self.number = number
-
-    def codes(self):
-        harts = self.chance.choice([1, 2, 2, 2, 2, 2, 3, 3, 4])
-        locations = self.chance.choice([1, 2, 2, 2, 3])
-        most = {1: 5, 2: 4, 3: 3, 4: 2}[harts]
-        return [Code(self.chance, locations).make(self.chance.randint(min(2, most), most)) for _ in range(harts)]
+        self.chance, self.number = random.Random('solve %d' % number), number
 
     def text(self, codes, condition):
         registers = sorted(LOCATIONS.items()) + sorted(WORDS.items())
         entries = [f'{hart}:{register}={value};' for hart in range(len(codes)) for register, value in registers]
         return test_text(f'made{self.number}', entries + self.words, codes, condition)
-
-    def condition(self, states):
-        """A condition that is true of one or two of these final states."""
-        chosen = self.chance.sample(states, min(len(states), self.chance.choice([1, 1, 1, 2])))
-        text = ' \\/ '.join('(%s)' % (' /\\ '.join(state) or 'true') for state in chosen) or 'false'
-        return self.chance.choice(['exists (%s)', 'exists (%s)', '~exists (%s)', 'forall (~(%s))']) % text
 
     def prices(self, slots):
         """One of the lists of examples/ as it is, or made."""
@@ -139,7 +131,8 @@ class Maker:
         """The bytes of a test and of prices. Most have final states that are there without fences and not with all."""
         tries = self.chance.choice([1, 20, 20, 20])
         while True:
-            codes = self.codes()
+            harts, locations = self.chance.choice([1, 2, 2, 2, 2, 2, 3, 3, 4]), self.chance.choice([1, 2, 2, 2, 3])
+            codes = [Code(self.chance, locations).make(self.chance.randint(2, 6 - harts)) for _ in range(harts)]
             self.words = ['%s=%s;' % (name, self.chance.choice([0] * 6 + [1, 2, 'z'])) for name in LOCATIONS.values()]
             test = model.test_of(self.text(codes, 'exists (true)').encode())
             data = json.dumps(self.prices(test.slots())).encode()
@@ -148,24 +141,23 @@ class Maker:
                 continue
             try:
                 reference.count_candidates(test, MOST_CANDIDATES)
-                states = self.states(test, prices)
+                live, fences = reference.Problem(test, prices).live, ('rw,rw',) * len(test.slots())
             except model.Fault as fault:
                 if str(fault).startswith('fault F14') and self.chance.random() < 0.1:
                     return self.text(codes, 'exists (true)').encode(), data
                 continue
             tries -= 1
+            states = sorted({state_of(it.candidate) for it in live}
+                            - {state_of(it.candidate) for it in live if it.survives(fences)})
             if states or tries <= 0:
                 if not states or self.chance.random() < 0.15:
                     states = sorted({state_of(candidate) for candidate in model.candidates(test)})
-                return self.text(codes, self.condition(states)).encode(), data
+                # a condition that is true of one or two of these final states
+                chosen = self.chance.sample(states, min(len(states), self.chance.choice([1, 1, 1, 2])))
+                states = ' \\/ '.join('(%s)' % (' /\\ '.join(state) or 'true') for state in chosen) or 'false'
+                form = self.chance.choice(['exists (%s)', 'exists (%s)', '~exists (%s)', 'forall (~(%s))'])
+                return self.text(codes, form % states).encode(), data
 
-    @staticmethod
-    def states(test, prices):
-        """The final states that are there without fences and not with all fences, in one order."""
-        problem = reference.Problem(test, prices)
-        fences = ('rw,rw',) * len(problem.slots)
-        with_all = {state_of(live.candidate) for live in problem.live if live.survives(fences)}
-        return sorted({state_of(live.candidate) for live in problem.live} - with_all)
 
 
 def state_of(candidate):
@@ -173,10 +165,4 @@ def state_of(candidate):
     test, runs = candidate.operations.test, candidate.operations.runs
     loaded = [(hart, test.code[hart][at].rd) for hart, at in test.memory_instructions()]
     atoms = ['%d:x%d=%d' % (hart, register, runs[hart].registers[register]) for hart, register in loaded if register]
-    return *atoms, *('%s=%d' % (name, last_word(candidate, address)) for name, address in test.addresses.items())
-
-
-def last_word(candidate, address):
-    """The word that the last store to this address wrote."""
-    stores = [candidate.operations.initial[address]] + candidate.operations.stores_to(address)
-    return max(stores, key=lambda store: candidate.place[store]).stored
+    return *atoms, *('%s=%d' % (name, candidate.last[address]) for name, address in test.addresses.items())

@@ -12,10 +12,6 @@
 static long long nanoseconds(struct timeval time) { return time.tv_sec * 1000000000LL + time.tv_usec * 1000LL; }
 
 int main(int count, char **words) {
-    if (count < 4) {
-        fprintf(stderr, "usage: measure TIMES INPUT COMMAND WORD..\n");
-        return 2;
-    }
     long long least = LLONG_MAX, peak = 0;
     int status = 0;
     for (int left = atoi(words[1]); left > 0; left--) {

@@ -9,6 +9,7 @@ import functools
 import glob
 import json
 import os
+import pathlib
 import re
 import resource
 import shlex
@@ -88,6 +89,11 @@ def rvfence(*words, **options):
     return ran([program(), *words], **options)
 
 
+def verdict(path):
+    """What `test` says of a file, in a word."""
+    return [*rvfence("test", path, "-q").out.split(), "", ""][1]
+
+
 def encoded(text):
     """The bytes of a text; bytes stay as they are."""
     return text if isinstance(text, bytes) else text.encode("utf-8", "surrogateescape")
@@ -105,8 +111,7 @@ def side_by_side(function, items):
 
 
 def read(path):
-    with open(path, "rb") as file:
-        return file.read()
+    return pathlib.Path(path).read_bytes()
 
 
 def text_of(path):
@@ -120,8 +125,7 @@ def compact(value):
 
 def written(path, data):
     """Writes bytes or text to a file, and gives its path."""
-    with open(path, "wb") as file:
-        file.write(encoded(data))
+    pathlib.Path(path).write_bytes(encoded(data))
     return path
 
 
@@ -188,8 +192,7 @@ class Counts:
     """What passed and what failed, which threads may count at once. Of the checks that fail the first are shown."""
 
     def __init__(self, most_shown=40):
-        self.lock = threading.Lock()
-        self.most_shown = most_shown
+        self.lock, self.most_shown = threading.Lock(), most_shown
         self.passed = self.failed = 0
 
     def check(self, name, is_right, found=""):
@@ -211,16 +214,28 @@ class Counts:
         return 0 if self.passed and not self.failed else 1
 
 
-def shown(value):
-    """The value in few letters."""
-    text = repr(value)
-    return text if len(text) < LONGEST_LINE else f"{text[:LONGEST_LINE // 2]} .. {text[-LONGEST_LINE // 4:]}"
+class Run(Counts):
+    """A run of a check: its counts, a folder of its own, its options, and how many there were of each kind."""
+
+    def __init__(self, folder, options):
+        super().__init__()
+        self.folder, self.options, self.kinds = folder, options, collections.Counter()
+
+    def numbers(self):
+        """The numbers of the made tests that are asked for: so many, from the first on."""
+        return range(self.options.first, self.options.first + self.options.count)
+
+    def file(self, name, data):
+        """The path of a file in its folder, which gets these bytes or this text."""
+        return written(f"{self.folder}/{name}", data)
 
 
 def difference(wanted, found):
     """What is wanted and what was found: of texts of several lines, those that differ."""
     if not (isinstance(wanted, str) and isinstance(found, str) and "\n" in wanted + found):
-        return f"{shown(found)}, and {shown(wanted)} is wanted"
+        wanted, found = (it if len(it) < LONGEST_LINE else f"{it[:LONGEST_LINE // 2]} .. {it[-LONGEST_LINE // 4:]}"
+                         for it in map(repr, [wanted, found]))
+        return f"{found}, and {wanted} is wanted"
     lines = difflib.ndiff(wanted.splitlines(), found.splitlines())
     changed = [f"    {line[:LONGEST_LINE]}" for line in lines if line[0] in "-+"]
     return "\n".join(["- is wanted, + was found", *changed[:40]])
@@ -230,3 +245,19 @@ def usage(text):
     """Ends the run, which was called with other words than it takes."""
     print(f"usage: {text}", file=sys.stderr)
     sys.exit(2)
+
+
+def kept(made, bare=str, look=lambda counts: None):
+    """The end of a script that makes files of the repository: `made` gives their texts by path. It writes them, or with
+    `--check` says whether they are so, but for what `bare` leaves out, and looks at more."""
+    counts, is_check = Counts(), sys.argv[1:] == ["--check"]
+    if sys.argv[1:] and not is_check:
+        usage(sys.modules["__main__"].__doc__)
+    for path, text in made().items():
+        if is_check:
+            counts.expect(f"{path}, as {sys.argv[0]} makes it", bare(text), bare(text_of(path)))
+        else:
+            written(path, text)
+    if is_check:
+        look(counts)
+    return counts.end() if is_check else 0

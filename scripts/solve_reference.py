@@ -3,47 +3,46 @@
 It is written from docs/MODEL.md and docs/FORMAT.md alone and shares no code with the program. Tests, prices, runs,
 rules and candidates are those of scripts/check_certificate.py. The way to the answer is another one than the
 program's: it has no tree. It gives what `rvfence solve` is to print, where beside `none` the program may print any
-execution that shows the outcome. Of the faults of runs and candidates it knows F13, F14 and F15."""
+execution that shows the outcome. Of the faults of runs and candidates it knows F13, F14 and F15.
+
+Below stands what else plain Python says of tests and executions: which faults files have; which tests are vacuous, by
+whether runs and last words can make the outcome true at all; which can be listed; and which final states there are."""
 import collections
 import functools
 import graphlib
 import itertools
 import json
 import math
-import operator
 
 import check_certificate as model                               # of this folder
+from running import EXAMPLES, Said
 
 MOST_CANDIDATES = 4000000
-
-
-def accesses_of(run):
-    """Of each access of a run its address and its loaded and stored words, in no order."""
-    accesses = [(step.address, step.loaded, step.stored) for step in run.steps if step.address is not None]
-    return tuple(sorted(accesses, key=str))
-
-
-def raw_candidates(test, accesses):
-    """How many raw candidates these accesses give: the sources of each load times the orders of each word's stores."""
-    stores = collections.Counter((address, stored) for address, _, stored in accesses if stored is not None)
-    sources = [stores[address, loaded] + (test.words[address] == loaded) - (stored == loaded)
-               for address, loaded, stored in accesses if loaded is not None]
-    numbers = collections.Counter(address for address, _ in stores.elements())
-    return math.prod(sources) * math.prod(map(math.factorial, numbers.values()))
+YES = Said('yes\n', '', 0)
+ALWAYS = ('constant', True)
+WORDS = {'exists': 'Allowed', '~exists': 'Forbidden', 'forall': 'Required'}
+READ = 'a test'                     # the answer of a file that has no fault
 
 
 def count_candidates(test, most=MOST_CANDIDATES):
-    """How many raw candidates there are (MODEL 15). Raises a fault where they are, or lists of runs, too many."""
-    all_runs = model.all_runs(test)
-    alike = [collections.Counter(map(accesses_of, runs)) for runs in all_runs]
-    if math.prod(map(len, all_runs)) > most:
-        raise model.Fault('fault F15 TooManyCandidates')
-    count = 0
-    for chosen in itertools.product(*[each.items() for each in alike]):
-        times = math.prod(number for _, number in chosen)
-        count += times * raw_candidates(test, list(itertools.chain.from_iterable(accesses for accesses, _ in chosen)))
+    """How many raw candidates there are (MODEL 15): for each list of runs the sources of each load times the orders of
+    each word's stores. Raises a fault where they are, or lists of runs, too many."""
+    alike, lists, count = [], 1, 0          # runs are alike with the same addresses, loaded and stored words
+    for runs in model.all_runs(test):
+        accesses = ([(it.address, it.loaded, it.stored) for it in run.operations] for run in runs)
+        alike.append(collections.Counter(tuple(sorted(each, key=str)) for each in accesses).items())
+        lists *= len(runs)
+    for chosen in itertools.product(*alike) if lists <= most else ():
+        accesses = [access for each, _ in chosen for access in each]
+        stores = collections.Counter((address, stored) for address, _, stored in accesses if stored is not None)
+        sources = [stores[address, loaded] + (test.words[address] == loaded) - (stored == loaded)
+                   for address, loaded, stored in accesses if loaded is not None]
+        orders = map(math.factorial, collections.Counter(address for address, _ in stores.elements()).values())
+        count += math.prod(number for _, number in chosen) * math.prod(sources) * math.prod(orders)
         if count > most:
-            raise model.Fault('fault F15 TooManyCandidates')
+            break
+    if max(lists, count) > most:
+        raise model.Fault('fault F15 TooManyCandidates')
     return count
 
 
@@ -68,40 +67,31 @@ def rows_where(operations, is_edge):
     return [sum(1 << at for at, b in enumerate(operations) if b is not a and is_edge(a, b)) for a in operations]
 
 
-SOURCE_RULES = (2, 3, 12)       # those that look at sources; of rule 4 the written fences alone are meant here
-OTHER_RULES = (1, 4, 5, 6, 7, 8, 9, 10, 11, 13)
+SOURCE_CAUSES = ('rf', 'co', 'fr', 'p2', 'p3', 'p12')       # those that look at sources or at coherence order
+OTHER_RULES = (1, 4, 5, 6, 7, 8, 9, 10, 11, 13)             # of rule 4 the written fences alone are meant here
 
 
 class Fences:
-    """What the runs alone decide: the edges of the rules that look at no source, and those of a fence at each slot.
-    `known` has both, which are within a hart, for each run, with its operations counted from 0."""
+    """What the runs alone decide: the edges of the rules that look at no source, and those of a fence at each slot."""
 
-    def __init__(self, operations, slots, known):
-        size = len(operations.of_harts)
-        self.rows = [0] * size
-        self.at = [{pair: [0] * size for pair in model.ALL_PAIRS} for _ in slots]
-        first = 0                       # the number of the hart's first operation
+    def __init__(self, operations, slots):
+        self.rows, self.at = [], [{pair: [] for pair in model.ALL_PAIRS} for _ in slots]
         for run in operations.runs:
-            if run not in known:
-                known[run] = self.of_run(run.operations, slots)
-            rows, at_slots = known[run]
-            for index, row in enumerate(rows):
-                self.rows[first + index] = row << first
-                for (at, pair), fenced in at_slots.items():
-                    self.at[at][pair][first + index] = fenced[index] << first
-            first += len(rows)
+            rows, at_slots = self.of_run(run, slots)
+            first = len(self.rows)          # the number of the hart's first operation
+            self.rows += [row << first for row in rows]
+            for (at, pair), fenced in at_slots.items():
+                self.at[at][pair] += [row << first for row in fenced]
 
     @staticmethod
-    def of_run(own, slots):
-        """The rows of a run's operations, and those for each slot and pair."""
-        preserved = model.Preserved({}, slots, (None,) * len(slots))
-
-        def is_fenced(slot, pair, a, b):
-            return model.po(a, b) and model.orders([pair], a, b) and model.runs_slot_between(slot, a, b)
-
+    @functools.lru_cache(10000)
+    def of_run(run, slots):
+        """The rows of a run's operations, counted from 0, and those for each slot and pair."""
+        own, preserved = run.operations, model.Preserved({}, slots, (None,) * len(slots))
         rows = rows_where(own, lambda a, b: any(preserved.rule(number, a, b) for number in OTHER_RULES))
-        return rows, {(at, pair): rows_where(own, lambda a, b: is_fenced(slot, pair, a, b))
-                      for at, slot in enumerate(slots) for pair in model.ALL_PAIRS}
+        return rows, {(at, pair): rows_where(own, lambda a, b: (
+            model.po(a, b) and model.orders([pair], a, b) and model.runs_slot_between(slot, a, b)))
+            for at, slot in enumerate(slots) for pair in model.ALL_PAIRS}
 
 
 class Live:
@@ -112,23 +102,18 @@ class Live:
 
     def under(self, placement):
         """The judged relation under this placement."""
-        rows = self.rows
-        for at, kind in enumerate(placement):
-            if kind is not None:
-                for pair in model.PAIRS[kind]:
-                    rows = joined(rows, self.fences.at[at][pair])
-        return rows
+        pairs = [self.fences.at[at][pair] for at, kind in enumerate(placement) for pair in model.PAIRS[kind]]
+        return functools.reduce(joined, pairs, self.rows)
 
     def survives(self, placement):
         return not has_cycle(self.under(placement))
 
     def kept(self, placement):
         """At each slot pairs that fences may have all at once without a cycle, those of the placement included."""
-        rows = self.under(placement)
-        kept = [set(model.PAIRS[kind]) if kind is not None else set() for kind in placement]
-        for at, pairs in enumerate(kept):
+        rows, kept = self.under(placement), [set(model.PAIRS[kind]) for kind in placement]
+        for pairs, fenced in zip(kept, self.fences.at):
             for pair in model.ALL_PAIRS:
-                wider = joined(rows, self.fences.at[at][pair])
+                wider = joined(rows, fenced[pair])
                 if not has_cycle(wider):
                     rows = wider
                     pairs.add(pair)
@@ -149,17 +134,15 @@ class Problem:
         self.test, self.prices, self.slots = test, prices, test.slots()
         self.raw = count_candidates(test)
         self.candidates, self.live = 0, []
-        self.is_listed = self.raw <= most_listed
-        operations, known = None, {}
+        self.is_listed, operations = self.raw <= most_listed, None
         for candidate in model.candidates(test) if self.is_listed else ():
             self.candidates += 1
             if operations is not candidate.operations:
                 operations = candidate.operations
-                fences = Fences(operations, self.slots, known)
+                fences = Fences(operations, tuple(self.slots))
             preserved = model.Preserved(candidate.rf, self.slots, (None,) * len(self.slots))
-            rows = joined(fences.rows, rows_where(operations.of_harts, lambda a, b: (
-                candidate.rfe(a, b) or candidate.co(a, b) or candidate.fr(a, b)
-                or any(preserved.rule(number, a, b) for number in SOURCE_RULES))))
+            rows = joined(fences.rows, rows_where(operations.of_harts, lambda a, b: any(
+                candidate.is_edge(preserved, a, cause, b) for cause in SOURCE_CAUSES)))
             if not has_cycle(rows):
                 self.live.append(Live(candidate, rows, fences))
 
@@ -183,61 +166,27 @@ class Problem:
         return sum(self.price(at, kind) for at, kind in enumerate(placement))
 
 
-class Breaks:
-    """Which placements break all of some executions: of each slot and option the executions that it breaks, as bits."""
-
-    def __init__(self, problem):
-        self.problem, self.all = problem, 0
-        self.options = [problem.options(at) for at in range(len(problem.slots))]
-        self.broken = [[0] * len(options) for options in self.options]
-
-    def add(self, kept):
-        """An execution that stands fences with the pairs kept at each slot, and breaks where a kind has another."""
-        bit = self.all + 1
-        self.all |= bit
-        for broken, options, pairs in zip(self.broken, self.options, kept):
-            for number, kind in enumerate(options):
-                if kind is not None and not model.PAIRS[kind] <= pairs:
-                    broken[number] |= bit
-
-    def cheapest(self):
-        """Of the placements that break all executions the first cheapest; or None. Of the ways to fill the first slots
-        that leave the same executions unbroken, it goes on from the first cheapest alone."""
-        best = {self.all: (0, ())}      # by what is unbroken the cost, and the numbers of the options
-        for at, broken in enumerate(self.broken):
-            ways = {}                   # by what breaks, the price and the number of the first cheapest option
-            for number, kind in enumerate(self.options[at]):
-                way = self.problem.price(at, kind), number
-                ways[broken[number]] = min(way, ways.get(broken[number], way))
-            later = functools.reduce(operator.or_, itertools.chain(*self.broken[at + 1:]), 0)
-            wider = {}
-            for (left, (cost, chosen)), (breaks, (price, number)) in itertools.product(best.items(), ways.items()):
-                left &= ~breaks
-                if not left & ~later:
-                    found = cost + price, (*chosen, number)
-                    wider[left] = min(found, wider.get(left, found))
-            best = wider
-        return tuple(options[number] for options, number in zip(self.options, best[0][1])) if 0 in best else None
-
-
 def solved(problem):
     """The first cheapest placement that forbids the outcome; or None. Each round takes the best placement that breaks
-    all executions known so far. Where it leaves a candidate without a cycle that is an execution more to break; else
-    it forbids the outcome, and nothing better does, since that would leave one of the known executions."""
-    breaks = Breaks(problem)
-    while True:
-        placement = breaks.cheapest()
+    all executions known so far. Where it leaves a candidate without a cycle that is an execution more to break, by its
+    pairs kept; else it forbids the outcome, and nothing better does, as that would leave one of those known."""
+    costs = [{kind: problem.price(at, kind) for kind in problem.options(at)} for at in range(len(problem.slots))]
+    broken = [dict.fromkeys(options, 0) for options in costs]           # of each option the executions, as bits
+    for known in itertools.count():
+        placement = model.cheapest(costs, broken, (1 << known) - 1)
         live = None if placement is None else problem.survivor(placement)
         if live is None:
             return placement
-        breaks.add(live.kept(placement))
+        for breaks, pairs in zip(broken, live.kept(placement)):
+            breaks.update({kind: bits | 1 << known for kind, bits in breaks.items() if not model.PAIRS[kind] <= pairs})
 
 
 def lines_of(problem, placement):
     if placement is None:
         full = ('rw,rw',) * len(problem.slots)
         return ['none', json.dumps(problem.survivor(full).witness(full), separators=(',', ':'))]
-    return ['fenced %d' % problem.cost(placement)] + model.fence_lines(problem.slots, placement)
+    fences = [f'fence P{hart} {at} {kind}' for (hart, at), kind in zip(problem.slots, placement) if kind is not None]
+    return [f'fenced {problem.cost(placement)}', *fences]
 
 
 def answer(test, prices):
@@ -248,3 +197,137 @@ def answer(test, prices):
     except model.Fault as fault:
         return '', f'{fault}\n', 2
     return ''.join(f'{line}\n' for line in lines_of(problem, placement)), '', 1 if placement is None else 0
+
+
+def fault_of(data, reader=model.test_of):
+    """The line of the fault of a test, or of prices by their reader; or READ."""
+    try:
+        reader(data)
+    except model.Fault as fault:
+        return str(fault)
+    return READ
+
+
+def read_witness(data):
+    """The witness that these bytes are, or None. Where a key stands twice, the last one counts."""
+    value = model.json_of(data)
+    return value if model.has_form(value, model.WITNESS) else None
+
+
+@functools.cache
+def is_listed(path, most):
+    """Has a test of examples/ so few lists of runs and candidates that they are listed here?"""
+    test = model.read(f'{EXAMPLES}/{path}', model.test_of)
+    try:
+        count_candidates(test, most)
+    except model.Fault as fault:
+        return str(fault) != 'fault F15 TooManyCandidates'
+    return True
+
+
+def execution_of(test, text, placement):
+    """The execution with these fences that this text is, or None."""
+    witness = read_witness(text.encode())
+    execution = model.execution_of(test, witness) if witness else None
+    return execution if execution and execution.obeys_axioms(test.slots(), placement) else None
+
+
+def is_same(test, wanted, found):
+    """Are two answers of `solve` the same, where each right execution will do for `none`?"""
+    if not wanted[0].startswith('none\n'):
+        return wanted == found
+    none, text, *more = found[0].split('\n')
+    execution = execution_of(test, text, ('rw,rw',) * len(test.slots()))
+    return (none, more, *found[1:]) == ('none', [''], '', 1) and execution is not None and execution.has_outcome()
+
+
+def stores_of(run):
+    """The addresses to which a run stores, each with a word that it stores there."""
+    return frozenset((step.address, step.stored) for step in run.steps if step.stored is not None)
+
+
+def verdict_of(data, prices):
+    """What `test` says of these bytes, and the reference's problem of them; the prices count for nothing. The outcome
+    is vacuous where no runs have it with last words that these runs store, or else the location begins with."""
+    test = model.test_of(data)
+    problem = Problem(test, prices)
+    ends = [{(tuple(run.registers), stores_of(run)) for run in runs} for runs in model.all_runs(test)]
+    for each in itertools.product(*ends):
+        registers, stored = [end for end, _ in each], frozenset().union(*[stores for _, stores in each])
+        words = [[word for place, word in stored if place == address] or [first]
+                 for address, first in test.words.items()]
+        if any(model.truth(test.outcome, registers, dict(zip(test.words, last))) for last in itertools.product(*words)):
+            return 'allowed' if problem.live else 'forbidden', problem
+    return 'vacuous', problem
+
+
+def named(condition):
+    """The places of a condition: a hart and a register, or the address of a location."""
+    if condition[0] in ('register', 'word'):
+        return {condition[1]}
+    return set().union(*map(named, condition[1:])) if condition[0] != 'constant' else set()
+
+
+class Shown:
+    """A test, and the places that are shown of it, in their order. A state has the words there. Registers go by their
+    names with x, and `locations [..]` isn't looked at."""
+
+    def __init__(self, data, is_all=False):
+        test = self.test = model.test_of(data)
+        self.title = data.decode().split('\n', 1)[0].split()[1]
+        places = named(test.wanted[0])
+        if is_all:
+            places |= {(hart, one.rd) for hart, code in enumerate(test.code) for one in code if one.rd}
+            places |= set(test.words)
+        self.places = sorted(places, key=lambda place: (type(place) is int, place))
+
+    def state_of(self, runs, last_word):
+        """The words with which these runs end, and each location by this function of its address."""
+        return tuple(last_word(it) if type(it) is int else runs[it[0]].registers[it[1]] for it in self.places)
+
+    def line_of(self, state):
+        names = {address: name for name, address in self.test.addresses.items()}
+        shown = [names[place] if type(place) is int else '%d:x%d' % place for place in self.places]
+        return ' '.join(f'{place}={names.get(word, word)};' for place, word in zip(shown, state))
+
+    def is_true(self, state):
+        """Is the condition, without its quantifier, true of this state?"""
+        words = dict(zip(self.places, state))
+        registers = [[words.get((hart, register)) for register in range(32)] for hart in range(len(self.test.code))]
+        return model.truth(self.test.wanted[0], registers, words)
+
+    def ends_so(self, text, line, placement):
+        """Is this the text of an execution with these fences that ends in the state of this line?"""
+        execution = execution_of(self.test, text, placement)
+        if execution is None:
+            return False
+        last = {store.address: store.stored for store in execution.gmo if store.stores}
+        return self.line_of(self.state_of(execution.operations.runs, last.get)) == line
+
+
+class Listing(Shown):
+    """The executions of a test, whatever its condition, as candidates without a cycle where no fence is placed."""
+
+    def __init__(self, data, is_all=False):
+        super().__init__(data, is_all)
+        free = model.test_of(data)
+        free.outcome, free.wanted = ALWAYS, (ALWAYS, True)
+        self.live = Problem(free, model.prices_of(b'{"rw,rw":1}')).live
+
+    def states(self, placement):
+        """The final states of the executions with these fences."""
+        candidates = [live.candidate for live in self.live if live.survives(placement)]
+        return sorted({self.state_of(each.operations.runs, each.last.get) for each in candidates})
+
+    def answer(self, placement, printed):
+        """What `states` is to say of the test with these fences, which is printed so (docs/FORMAT.md, section 15)."""
+        states, condition = self.states(placement), printed.rstrip('\n').rsplit('\n', 1)[-1]
+        quantifier = condition.split(' ', 1)[0]
+        positive = sum(map(self.is_true, states))
+        negative = len(states) - positive
+        is_met = {'exists': positive > 0, '~exists': positive == 0, 'forall': negative == 0}[quantifier]
+        how_often = 'Never' if not positive else 'Sometimes' if negative else 'Always'
+        lines = [f'Test {self.title} {WORDS[quantifier]}', f'States {len(states)}', *map(self.line_of, states),
+                 'Ok' if is_met else 'No', 'Witnesses', f'Positive: {positive} Negative: {negative}',
+                 f'Condition {condition}', f'Observation {self.title} {how_often} {positive} {negative}', '']
+        return Said(''.join(f'{line}\n' for line in lines), '', 0)

@@ -7,8 +7,7 @@ and `-i` leaves it so; all else stays, byte for byte.
 
 With `--anew` the fences are taken out of the text here, cell by cell. What `--write` prints of a test that isn't
 forbidden as it is written has the fences that are due, is judged by `test`, and written once more: then it stays as it
-is. Where no fence names devices it is audited, too: nothing can go, and the cost is what was said. What differs is
-printed with the test."""
+is. Where no fence names devices it is audited, too: nothing can go, and the cost is what was said."""
 import copy
 import itertools
 import random
@@ -16,15 +15,26 @@ import re
 
 import check_certificate as model
 import solve_reference as reference
-from litmus import FENCES, Maker
-from running import rvfence, text_of, written
-from verdicts import verdict_of
+from litmus import FENCES, Maker, fence_of
+from running import rvfence, text_of, verdict
 
 LABEL = "OUT:"
 EASED = "fence io,io"                                           # orders no memory
-STATUS = {"vacuous": 4, "allowed": 1}
+STATUS = {"vacuous": 4, "allowed": 1, "forbidden": 0}
 STAYS = "  (needed.*|not for memory)$"                            # a line by which a fence stays as it is
 DEVICES = ["fence i,r", "fence o,w", "fence iorw,iorw", "fence iorw,w", "fence io,io", "fence.i"]
+
+
+def is_enough(kind, other):
+    """Does the one order all that the other orders?"""
+    return model.PAIRS[other] <= model.PAIRS[kind]
+
+
+def words_of(kind, advised):
+    """What is said of a FENCE of this kind, or of none, where this is advised."""
+    if kind is None or advised is None:
+        return "not needed" if kind else f"{advised} is missing"
+    return "needed" if kind == advised else f"{advised} {'is enough' if is_enough(kind, advised) else 'instead'}"
 
 
 class Cell:
@@ -39,7 +49,7 @@ class Cell:
             kind = self.letters if self.letters == "tso" else re.sub("[io]", "", self.letters)
             self.kind = kind if kind in model.KINDS else None
         self.stays = self.kind not in (None, self.letters)
-        self.is_taken = self.kind is not None and not self.stays
+        self.is_taken, self.about = self.kind is not None and not self.stays, " for memory" * self.stays
 
     def __str__(self):
         return f"{self.label} {self.bare}".strip()
@@ -59,9 +69,10 @@ class Columns:
         rows = [line.removesuffix(" ;").split(" | ") for line in lines[top:-1]]
         self.cells = [[Cell(cell.strip()) for cell in column if cell.strip()] for column in zip(*rows)]
 
-    def text(self):
+    def text(self, shown=str):
+        """The text, with each cell as `shown` prints it."""
         rows = itertools.zip_longest(*self.cells, fillvalue="")
-        return "\n".join([*self.above, *[" | ".join(map(str, row)) + " ;" for row in rows], self.condition, ""])
+        return "\n".join([*self.above, *[" | ".join(map(shown, row)) + " ;" for row in rows], self.condition, ""])
 
     def changed(self, change):
         """The columns with each cell as `change` has it, which may be nothing."""
@@ -76,6 +87,11 @@ class Columns:
     def eased(self):
         """With no fence that names devices and orders memory."""
         return self.changed(lambda cell: cell.saying(EASED) if cell.stays else cell)
+
+    def followed(self, lines):
+        """What the cells say in places for which these kinds or nothing is advised, by the cells."""
+        cells = [[cell for cell in column if cell.bare] for column in self.cells]
+        return {cells[hart][at]: fence_of(kind) for (hart, at), kind in lines.items()}
 
     def harts(self):
         codes, above = model.test_of(self.text().encode()).code, len(self.above)
@@ -106,21 +122,17 @@ def made(number):
 class Hart:
     """The code of a hart with its fences."""
 
-    def __init__(self, number, column, above, instructions):
-        self.number, self.cells = number, [cell for cell in column if cell.bare]
+    def __init__(self, number, column, above, code):
+        self.number, self.code, self.cells = number, code, [cell for cell in column if cell.bare]
         self.lines = [line for line, cell in enumerate(column, above + 1) if cell.bare]
-        labelled = [LABEL in (cell.label, str(last)) for last, cell in zip([Cell(""), *column], column) if cell.bare]
-        is_used = any(re.match("b(eq|ne) ", cell.bare) for cell in self.cells)
-        self.target = labelled.index(True) if True in labelled else len(self.cells)
-        self.is_reached = [has_label and is_used for has_label in labelled]         # by a branch
-        self.memory = [instruction.is_memory() for instruction in instructions]
-        self.branch = [instruction.form in ("branch", "jump") for instruction in instructions]
+        self.memory = [instruction.is_memory() for instruction in code]
         self.fences = [at for at, cell in enumerate(self.cells) if cell.kind is not None]
 
     def access_of(self, at):
         """The access that a FENCE stands at, or None."""
-        for other in range(at + 1, len(self.cells)):
-            if self.is_reached[other] or self.branch[other] and any(self.memory[self.target:]):
+        targets = {instruction.label for instruction in self.code}              # of branches
+        for other, label in [(it, self.code[it].label) for it in range(at + 1, len(self.code))]:
+            if other in targets or label is not None and any(self.memory[label:]):
                 return None
             if self.memory[other]:
                 return other
@@ -134,45 +146,30 @@ class Hart:
         """The FENCE that stands for the kind at the access, or None."""
         here = [at for at in self.fences if self.access_of(at) == access]
         same = [at for at in here if self.cells[at].kind == kind]
-        strong = [at for at in here if model.PAIRS[kind] <= model.PAIRS[self.cells[at].kind]]
+        strong = [at for at in here if is_enough(self.cells[at].kind, kind)]
         return (same or strong or here or [None])[0]
+
+    def is_between(self, at):
+        """Are there accesses before and behind this instruction?"""
+        return any(self.memory[:at]) and any(self.memory[at:])
 
     def advice(self, at, placed):
         """What is advised at this instruction, or None. `placed` has the kind of each slot."""
         cell, access = self.cells[at], self.access_of(at)
         if self.memory[at]:
             kind = placed.get(self.slot(at))
-            return f"{kind} is missing" if kind and self.answering(at, kind) is None else None
+            return words_of(None, kind) if kind and self.answering(at, kind) is None else None
         if cell.kind is None:
             return "not for memory" if cell.letters else None
-        about = " for memory" if cell.stays else ""
         if access is None or self.slot(access) not in placed:
-            is_between = any(self.memory[:at]) and any(self.memory[at:])
-            return "at no slot" if is_between else f"orders nothing{about}"
+            return "at no slot" if self.is_between(at) else f"orders nothing{cell.about}"
         kind = placed[self.slot(access)]
-        if kind is None or self.answering(access, kind) != at:
-            return f"not needed{about}"
-        if not model.PAIRS[kind] <= model.PAIRS[cell.kind]:
-            return f"{kind} instead{about}"
-        return f"needed{about}" if cell.kind == kind else f"{kind} is enough{about}"
+        return words_of(cell.kind, kind if kind and self.answering(access, kind) == at else None) + cell.about
 
     def line(self, at, words):
         """The line by which this is said of an instruction."""
         where = f"{f'line {self.lines[at]}':8}  {f'P{self.number}:{at}':5}"
         return f"{where}  {self.cells[at].letters or 'none':9}  {words}"
-
-
-def written_placement(harts, slots, prices):
-    """The written fence of each slot, and whether these are all: each must have a slot of its own, and a price."""
-    placed, are_all = dict.fromkeys(slots), True
-    for hart, at in ((hart, at) for hart in harts for at in hart.fences):
-        access, kind = hart.access_of(at), hart.cells[at].kind
-        slot = None if access is None else hart.slot(access)
-        if slot in placed and placed[slot] is None and kind in prices.offered:
-            placed[slot] = kind
-        else:
-            are_all = False
-    return tuple(placed[slot] for slot in slots), are_all
 
 
 class Advised:
@@ -181,39 +178,46 @@ class Advised:
     def __init__(self, asked, left, prices):
         problem = reference.Problem(model.test_of(left.text().encode()), prices)
         self.harts, self.best = asked.harts(), reference.solved(problem)
-        self.own, self.are_all = written_placement(self.harts, problem.slots, prices)
-        is_paid = all(kind is None or prices.at(slot, kind) for slot, kind in zip(problem.slots, self.own))
-        self.own_cost = problem.cost(self.own)
+        # the written fence of each slot; are these all? Each must have a slot of its own, and a price
+        placed, fences = dict.fromkeys(problem.slots), [(hart, at) for hart in self.harts for at in hart.fences]
+        for hart, at in fences:
+            access, kind = hart.access_of(at), hart.cells[at].kind
+            slot = None if access is None else hart.slot(access)
+            if slot in placed and placed[slot] is None and kind in prices.offered:
+                placed[slot] = kind
+        self.are_all = len(fences) == sum(kind is not None for kind in placed.values())
+        is_paid = all(kind is None or prices.at(slot, kind) for slot, kind in placed.items())
+        own = tuple(placed.values())
+        self.own_cost = problem.cost(own)
         self.best_cost = None if self.best is None else problem.cost(self.best)
-        if is_paid and self.own_cost == self.best_cost and problem.survivor(self.own) is None:
-            self.best = self.own
+        if is_paid and self.own_cost == self.best_cost and problem.survivor(own) is None:
+            self.best = own
         self.placed = None if self.best is None else dict(zip(problem.slots, self.best))
 
     def lines(self):
         """Of each hart in turn each instruction of which something is said, and the words."""
-        said = [(hart, at, hart.advice(at, self.placed)) for hart in self.harts for at in range(len(hart.cells))]
+        said = ((hart, at, hart.advice(at, self.placed)) for hart in self.harts for at in range(len(hart.cells)))
         return [line for line in said if line[2] is not None]
 
     def status(self, kind):
         is_right = self.best is not None and all(
             words in ("needed", "needed for memory", "not for memory") for _, _, words in self.lines())
-        return STATUS.get(kind, 0 if is_right else 1)
+        return STATUS[kind] or int(not is_right)
 
 
 def by_reference(columns, data):
     """The verdict; the lines and the status that are to be printed, or a fault; and what is advised for `--write`."""
     prices = model.prices_of(data)
     try:
-        kind, _ = verdict_of(columns.text().encode(), prices)
+        kind, _ = reference.verdict_of(columns.text().encode(), prices)
         advised = Advised(columns, columns.without_fences().eased(), prices)
         mended = Advised(columns.eased(), columns.without_fences(), prices)
     except model.Fault as fault:
         return None, ([str(fault)], 2), None
-    cost = f", {advised.own_cost}" if advised.are_all else ""
+    first = f"{kind} as written{f', {advised.own_cost}' if advised.are_all else ''}; "
     if advised.best is None:
-        return kind, ([f"{kind} as written{cost}; no fences rule it out"], advised.status(kind)), mended
-    said = [f"{kind} as written{cost}; cheapest {advised.best_cost}"]
-    said += [hart.line(at, words) for hart, at, words in advised.lines()]
+        return kind, ([f"{first}no fences rule it out"], advised.status(kind)), mended
+    said = [f"{first}cheapest {advised.best_cost}", *(hart.line(at, words) for hart, at, words in advised.lines())]
     return kind, (said, advised.status(kind)), mended
 
 
@@ -223,89 +227,43 @@ class Places(reference.Problem):
     def __init__(self, columns, prices):
         self.harts = columns.harts()
         self.cells = {(hart.number, at): hart.cells[at] for hart in self.harts for at in hart.fences}
-        self.costs = [self.costs_at(self.harts[hart], at, prices) for hart, at in self.cells]
+        self.written, self.costs = tuple(cell.kind for cell in self.cells.values()), []
+        for (hart, at), own in zip(self.cells, self.written):
+            # what each kind costs that may stand in the place
+            hart, access = self.harts[hart], self.harts[hart].access_of(at)
+            slot = hart.slot(at + 1 if access is None else access)
+            enough = own if own in prices.offered else min(
+                (kind for kind in prices.offered if is_enough(kind, own)), key=lambda kind: prices.price[kind])
+            weaker = [kind for kind in prices.offered if model.PAIRS[kind] < model.PAIRS[own]]
+            costs = {kind: prices.at(slot, kind) for kind in weaker}
+            self.costs.append({None: 0, own: prices.at(slot, enough), **costs})
         emptied = columns.changed(lambda cell: cell if cell.kind is None else cell.saying(EASED))
         test = model.test_of(emptied.text().encode())
         test.slots = lambda: list(self.cells)
         super().__init__(test, prices)
 
-    @staticmethod
-    def costs_at(hart, at, prices):
-        """What each kind costs that may stand in a place."""
-        own, access = hart.cells[at].kind, hart.access_of(at)
-        slot = hart.slot(at + 1 if access is None else access)
-        enough = own if own in prices.offered else min(
-            (kind for kind in prices.offered if model.PAIRS[own] <= model.PAIRS[kind]),
-            key=lambda kind: prices.price[kind])
-        weaker = [kind for kind in prices.offered if model.PAIRS[kind] < model.PAIRS[own]]
-        return {own: prices.at(slot, enough), **{kind: prices.at(slot, kind) for kind in weaker}}
-
     def options(self, at):
         """What may stand in the place of this number, in the order of precedence."""
-        own = list(self.cells.values())[at].kind
-        kinds = [kind for kind in model.KINDS if kind in self.costs[at]]
-        if not self.costs[at][own]:
-            return [None, *kinds]
-        return [own, None, *[kind for kind in kinds if kind != own]]
+        own, kinds = self.written[at], [kind for kind in [None, *model.KINDS] if kind in self.costs[at]]
+        return sorted(kinds, key=lambda kind: kind != own) if self.costs[at][own] else kinds
 
     def price(self, at, kind):
-        return 0 if kind is None else self.costs[at][kind]
-
-    def written(self):
-        return tuple(cell.kind for cell in self.cells.values())
+        return self.costs[at][kind]
 
     def words(self, hart, at, advised):
         """What is said of the fence at this instruction, where this is advised in its place."""
         cell = hart.cells[at]
         if cell.kind is None:
             return "not for memory"
-        about = " for memory" if cell.stays else ""
-        if not (any(hart.memory[:at]) and any(hart.memory[at:])):
-            return f"orders nothing{about}"
-        if advised == cell.kind:
-            return f"needed{about}" + " (no price)" * (cell.kind not in self.prices.offered)
-        return f"not needed{about}" if advised is None else f"{advised} is enough{about}"
+        if not hart.is_between(at):
+            return f"orders nothing{cell.about}"
+        is_unpaid = advised == cell.kind and advised not in self.prices.offered
+        return words_of(cell.kind, advised) + cell.about + " (no price)" * is_unpaid
 
 
-def in_place(columns, prices, anew):
-    """What is to be printed in place, and what is advised in each place of which a line says to change something."""
-    places = Places(columns, prices)
-    best = dict(zip(places.cells, reference.solved(places)))
-    costs = places.cost(places.written()), places.cost(best.values()), anew
-    said = ["forbidden as written, %d; in place %d; anew %s" % costs]
-    for hart in places.harts:
-        for at in [at for at, cell in enumerate(hart.cells) if cell.letters]:
-            said.append(hart.line(at, places.words(hart, at, best.get((hart.number, at)))))
-    changed = {place: kind for place, kind in best.items() if kind != places.cells[place].kind}
-    is_right = all(re.search(STAYS, line) for line in said[1:])
-    return (said, 0 if is_right else 1), changed
-
-
-def followed(columns, lines):
-    """The columns where these places have what is advised there; what goes leaves its label."""
-    cells = [[cell for cell in column if cell.bare] for column in columns.cells]
-    fences = {cells[hart][at]: fence_of(kind) if kind else "" for (hart, at), kind in lines.items()}
-    return columns.changed(lambda cell: cell.saying(fences[cell]) if cell in fences else cell)
-
-
-def fence_of(kind):
-    return "fence.tso" if kind == "tso" else f"fence {kind}"
-
-
-def fences_of(text):
-    """Of each hart the fences of a printed test, in their places: of each cell its letters, or None."""
-    return [[cell.letters for cell in column if cell.bare] for column in Columns(re.sub("L[0-9]+:", LABEL, text)).cells]
-
-
-def mended_fences(columns, placed):
-    """The same of the test that `--write` is to print."""
-    harts = []
-    for hart, column in enumerate(columns.without_fences().cells):
-        harts.append([])
-        for at, cell in enumerate(cell for cell in column if cell.bare):
-            kind = placed.get((hart, at))
-            harts[-1] += [kind] * (kind is not None) + [cell.letters]
-    return harts
+def fences_of(columns):
+    """Of each hart the fences in their places: of each cell its letters, or None."""
+    return [[cell.letters for cell in column if cell.bare] for column in columns.cells]
 
 
 def check_mended(run, name, files, columns, kind, mended):
@@ -315,25 +273,26 @@ def check_mended(run, name, files, columns, kind, mended):
     if mended.best is None:
         run.expect(f"{name}: nothing is written", "", said.out)
         return
-    run.expect(f"{name}: the written fences", mended_fences(columns, mended.placed), fences_of(said.out))
-    file = written(files[0].replace("test.litmus", "mended.litmus"), said.out)
-    verdict = rvfence("test", file).out.split()
-    wanted = "vacuous" if kind == "vacuous" else "forbidden"
-    run.expect(f"{name}: the written test", wanted, verdict[1] if len(verdict) > 1 else "")
+    harts = fences_of(columns.without_fences())
+    for (hart, at), advised in reversed(mended.placed.items()):
+        harts[hart][at:at] = [advised] if advised else []
+    run.expect(f"{name}: the written fences", harts, fences_of(Columns(re.sub("L[0-9]+:", LABEL, said.out))))
+    file, wanted = run.file("mended.litmus", said.out), "vacuous" if kind == "vacuous" else "forbidden"
+    run.expect(f"{name}: the written test", wanted, verdict(file))
     again = rvfence("audit", file, files[1], "--write")
-    run.expect(f"{name}: written again", (said.out, STATUS.get(wanted, 0)), (again.out, again.status))
+    run.expect(f"{name}: written again", (said.out, STATUS[wanted]), (again.out, again.status))
     if not any(cell.stays for column in columns.cells for cell in column):
         again = rvfence("audit", file, files[1], "--anew")
         first = f"{wanted} as written, {mended.best_cost}; cheapest {mended.best_cost}"
         run.expect(f"{name}: the audit of it", first, again.out.split("\n")[0])
-        run.expect(f"{name}: its status", STATUS.get(wanted, 0), again.status)
+        run.expect(f"{name}: its status", STATUS[wanted], again.status)
 
 
-def compare(run, name, wanted, files, text, *words):
+def compare(run, name, wanted, files, *words):
     """Compares what `audit` prints of these files, of a test and prices, with what is to be printed."""
     said = rvfence("audit", "-q", *files, *words)
     found = ((said.out + said.err).splitlines(), said.status)
-    run.check(name, wanted == found, f"{text}\nwanted: {wanted}\nfound:  {found}")
+    run.check(name, wanted == found, f"{''.join(map(text_of, files))}\nwanted: {wanted}\nfound:  {found}")
 
 
 def left_over(lines):
@@ -347,69 +306,68 @@ def check_followed(run, name, files, columns, changed, said):
     sets = [[place] for place in places] + [places] * (len(places) > 1)
     sets += [chance.sample(places, chance.randint(2, len(places) - 1)) for _ in range(3) if len(places) > 2]
     for chosen in sets:
-        text = followed(columns, {place: changed[place] for place in chosen})
-        file = written(files[0].replace("test.litmus", "followed.litmus"), text.text())
-        verdict = rvfence("test", file).out.split()
-        run.expect(f"{name}: {chosen} followed", "forbidden", verdict[1] if len(verdict) > 1 else "")
+        fences = columns.followed({place: changed[place] for place in chosen})
+        text = columns.changed(lambda cell: cell.saying(fences.get(cell, cell.bare))).text()
+        file = run.file("followed.litmus", text)
+        run.expect(f"{name}: {chosen} followed", "forbidden", verdict(file))
         if len(chosen) > 1 or len(places) == 1:
             again = rvfence("audit", "-q", file, files[1])
             left = [words for place, words in zip(places, left_over(said)) if place not in chosen]
             run.expect(f"{name}: {chosen} audited again", left, left_over(again.out.splitlines()[1:]))
 
 
-def with_fences(columns, changed):
-    """The text in which fences have become what is advised, with blanks behind, but those that name devices."""
-    cells = [[cell for cell in column if cell.bare] for column in columns.cells]
-    fences = {cells[hart][at]: fence_of(kind) if kind else "" for (hart, at), kind in changed.items()}
+def check_written(run, name, files, columns, changed):
+    """Checks what `--write` prints of a test that is forbidden as it is written, and what `-i` leaves: fences have
+    become what is advised, with blanks behind, but for those that name devices."""
+    fences = columns.followed(changed)
 
     def shown(cell):
         if not cell or cell.stays or cell not in fences:
             return str(cell)
         return cell.label + " " * len(cell.label[:1]) + fences[cell].ljust(len(cell.bare))
 
-    rows = [" | ".join(map(shown, row)) + " ;" for row in itertools.zip_longest(*columns.cells, fillvalue="")]
-    return "\n".join([*columns.above, *rows, columns.condition, ""])
-
-
-def check_written(run, name, files, columns, changed):
-    """Checks what `--write` prints of a test that is forbidden as it is written, and what `-i` leaves."""
-    text = with_fences(columns, changed)
-    said = rvfence("audit", "-q", *files, "--write")
+    text, said = columns.text(shown), rvfence("audit", "-q", *files, "--write")
     run.expect(f"{name}: written in place", (text, int(text != columns.text())), (said.out, said.status))
-    file = written(files[0].replace("test.litmus", "mended.litmus"), columns.text())
+    file = run.file("mended.litmus", columns.text())
     said = rvfence("audit", "-q", file, files[1], "-i")
     run.expect(f"{name}: mended in place", (text, "", 0), (text_of(file), said.out, said.status))
 
 
 def check_in_place(run, name, files, columns, kind, prices, wanted):
     """Compares what is printed in place; `wanted` is what is to be printed with `--anew`."""
-    text = columns.text() + prices.decode()
-    if kind == "allowed":
-        compare(run, f"{name} in place", wanted, files, text)
-    elif kind == "vacuous":
-        places = Places(columns, model.prices_of(prices))
+    if kind != "allowed":
+        places, anew = Places(columns, model.prices_of(prices)), wanted[0][0].rsplit(" ", 1)[-1]
+        said = f"{kind} as written, {places.cost(places.written)}; "
         why = rvfence("test", files[0]).out.splitlines()[0].split("vacuous    ", 1)[-1]
-        line = f"vacuous as written, {places.cost(places.written())}; {why}"
-        compare(run, f"{name} in place", ([line], STATUS[kind]), files, text)
-    else:
-        anew = wanted[0][0].rsplit(" ", 1)[-1]
-        said, changed = in_place(columns, model.prices_of(prices), anew)
-        compare(run, f"{name} in place", said, files, text)
-        run.kinds.update("in place: " + re.sub("^[rwtso]+,?[rw]* ", "K ", line[28:]) for line in said[0][1:])
-        check_followed(run, name, files, columns, changed, said[0][1:])
+        wanted = [said + why], STATUS["vacuous"]
+    if kind == "forbidden":
+        best = dict(zip(places.cells, reference.solved(places)))
+        lines = [hart.line(at, places.words(hart, at, best.get((hart.number, at))))
+                 for hart in places.harts for at, cell in enumerate(hart.cells) if cell.letters]
+        first = f"{said}in place {places.cost(best.values())}; anew {anew}"
+        wanted = [first, *lines], int(not all(re.search(STAYS, line) for line in lines))
+    compare(run, f"{name} in place", wanted, files)
+    if kind == "forbidden":
+        count(run, "in place: ", lines)
+        # what is advised in each place of which a line says to change something
+        changed = {place: kind for place, kind in best.items() if kind != places.cells[place].kind}
+        check_followed(run, name, files, columns, changed, lines)
         check_written(run, name, files, columns, changed)
+
+
+def count(run, before, lines):
+    run.kinds.update(before + re.sub("^[rwtso]+,?[rw]* ", "K ", line[28:]) for line in lines)
 
 
 def check(run):
     for number in run.numbers():
-        columns, prices = made(number)
-        name = f"made test {number}"
+        (columns, prices), name = made(number), f"made test {number}"
         kind, wanted, mended = by_reference(columns, prices)
-        files = [written(run.path("test.litmus"), columns.text()), written(run.path("prices.json"), prices)]
-        compare(run, name, wanted, files, columns.text() + prices.decode(), "--anew")
+        files = [run.file("test.litmus", columns.text()), run.file("prices.json", prices)]
+        compare(run, name, wanted, files, "--anew")
         if kind is not None:
             run.kinds[kind] += 1
-            run.kinds.update(re.sub("^[rwtso]+,?[rw]* ", "K ", line[28:]) for line in wanted[0][1:])
+            count(run, "", wanted[0][1:])
             if kind != "forbidden":
                 check_mended(run, name, files, columns, kind, mended)
             check_in_place(run, name, files, columns, kind, prices, wanted)

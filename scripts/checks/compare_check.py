@@ -12,9 +12,9 @@ import random
 import re
 import sys
 
+from check_certificate import Judge
 from running import (EXAMPLES, PRICE_LISTS, PRICES, TOP, Said, compact, encoded, expanded, here, ran, read, rows,
-                     rvfence, tests_of_examples, written)
-from verdicts import Judge
+                     rvfence, tests_of_examples)
 
 FAULT = 'fault F18 BadCertificate'
 LISTED = ['CoRR', 'MP', 'SB', 'SBF']    # of versions 1 and 2, with a list of cycles
@@ -57,33 +57,32 @@ def mangled(cert, other, dice):
     return cert
 
 
-def judge_both(run, name, files, judge, wanted):
+def judge_both(run, name, files, judge, wanted, *options):
     """Do both say this of the certificate, the last of the files?"""
-    run.expect(f'check of {name}', wanted, rvfence('check', *files))
-    run.expect(f'check_certificate.py of {name}', wanted, judge.verdict(read(files[2])))
+    run.expect(f'check of {name}', wanted, rvfence('check', *files, *options))
+    run.expect(f'check_certificate.py of {name}', wanted, judge.verdict(read(files[-1])))
 
 
-def refuted(run, test, judge, cert, wanted):
-    """The certificate in version 4, with a refutation in the place of its cycles, where there is one."""
-    items = json.loads(read(f'{EXAMPLES}/refutations.json')).get(os.path.relpath(test, EXAMPLES)[:-len('.litmus')])
-    if items is None or cert['answer'] == 'none':
-        return None
-    cert = dict(cert, version=4, cycles=items)
-    files = [test, PRICES, written(run.path('refuted.json'), json.dumps(cert))]
-    judge_both(run, f'{test}, refuted', files, judge, wanted)
-    return cert
+def compare_mangled(run, name, files, judge, cert, others, dice, *options):
+    """Do both say the same of the certificate with a change or two?"""
+    text = json.dumps(mangled(cert, dice.choice(others), dice))
+    wanted = judge.verdict(text.encode())
+    run.kinds[' '.join(wanted.out.split('\n')[0].split()[:2]) or 'fault'] += 1
+    if not run.expect(name, wanted, rvfence('check', *files, run.file('mangled.json', text), *options)):
+        print(text)
 
 
 def certified(run):
-    """For each test and prices with a certificate a name, both files, their judge and it; and the same in version 4."""
-    found, path = [], run.path('answer.json')
+    """For each test and prices with a certificate a name, both files, their judge and it; and the same in version 4,
+    with a refutation in the place of its cycles, where there is one."""
+    found, path, refutations = [], f'{run.folder}/answer.json', json.loads(read(f'{EXAMPLES}/refutations.json'))
     for test, name in itertools.product([*tests_of_examples(), here('ROUND.litmus')], PRICE_LISTS):
         prices, what = f'{EXAMPLES}/{name}', f'{os.path.relpath(test, EXAMPLES)} at {name}'
         said = rvfence('solve', test, prices, '--cert', path)
         if said.status == 2:
             run.check(f'a fault leaves no certificate, {what}', not os.path.exists(path))
             continue
-        judge, wanted = Judge(test, prices), Said(f'yes\n{said.out}', '', 0)
+        judge, wanted = Judge([test], prices), Said(f'yes\n{said.out}', '', 0)
         judge_both(run, what, (test, prices, path), judge, wanted)
         cert = json.loads(read(path))
         cycles = [[tuple(map(int, name[1:].split(':'))) for name, _ in item]        # by hart and instruction
@@ -91,9 +90,12 @@ def certified(run):
         late = [cycle for cycle in cycles if cycle[0] != min(cycle)]
         run.expect(f'cycles that begin after their least operation, {what}', [], late)
         found.append((what, test, prices, judge, cert))
-        if name == 'prices.json':
-            cert = refuted(run, test, judge, cert, wanted)
-            found += [(f'{what}, refuted', test, prices, judge, cert)] * 3 if cert else []
+        items = refutations.get(os.path.relpath(test, EXAMPLES).removesuffix('.litmus'))
+        if name == 'prices.json' and items is not None and cert['answer'] != 'none':
+            cert = dict(cert, version=4, cycles=items)
+            files = [test, PRICES, run.file('refuted.json', json.dumps(cert))]
+            judge_both(run, f'{test}, refuted', files, judge, wanted)
+            found += [(f'{what}, refuted', test, prices, judge, cert)] * 3
         os.remove(path)
     return found
 
@@ -102,16 +104,11 @@ def check(run):
     found = certified(run)
     for name in LISTED:                 # each as often as makes them a third of all
         test = f'{EXAMPLES}/{name}.litmus'
-        found += [(f'{name}, listed', test, PRICES, Judge(test, PRICES), stored(name))] * 10
+        found += [(f'{name}, listed', test, PRICES, Judge([test], PRICES), stored(name))] * 10
     for number in run.numbers():
-        dice = random.Random(number)
-        what, test, prices, judge, cert = found[number % len(found)]
-        other = dice.choice([it[-1] for it in found if it[-1]['version'] == cert['version']])
-        path = written(run.path('mangled.json'), json.dumps(mangled(cert, other, dice)))
-        wanted = judge.verdict(read(path))
-        words = wanted.out.split() or ['fault']
-        run.kinds[' '.join(words[:2]) if words[0] != 'yes' else 'yes'] += 1
-        run.expect(f'certificate {number}, of {what}', wanted, rvfence('check', test, prices, path))
+        what, *files, judge, cert = found[number % len(found)]
+        others = [it[-1] for it in found if it[-1]['version'] == cert['version']]
+        compare_mangled(run, f'certificate {number}, of {what}', files, judge, cert, others, random.Random(number))
 
 
 def stored(name):
@@ -122,16 +119,14 @@ def stored(name):
 def judge(run, what, test, data, wanted, prices=PRICES, fault=None):
     """Is the verdict on this certificate as wanted? `yes` alone stands for all answers; with its answer the command is
     run. `check` must print the same, but for the fault, where one is given: it looks for faults in the runs too."""
-    files = [test, prices, written(run.path("certificate.json"), data)]
+    files = [test, prices, run.file("certificate.json", data)]
     command = [sys.executable, f"{TOP}/scripts/check_certificate.py", *files]
-    said = ran(command) if "\n" in wanted else Judge(test, prices).verdict(data)
+    said = ran(command) if "\n" in wanted else Judge([test], prices).verdict(data)
     run.expect(f"{what}, by check", Said("", f"{fault}\n", 2) if fault else said, rvfence("check", *files))
-    if wanted == FAULT:
-        run.expect(what, Said("", f"{FAULT}\n", 2), said)
-    elif wanted == "yes":
-        run.expect(what, ("yes", "", 0), (said.out.split("\n")[0], *said[1:]))
-    else:
-        run.expect(what, Said(f"{wanted}\n", "", 0 if wanted.startswith("yes\n") else 1), said)
+    if wanted == "yes":
+        said = said._replace(out=said.out.split("\n")[0] + "\n")
+    status = 2 if wanted == FAULT else 0 if wanted.startswith("yes") else 1
+    run.expect(what, Said("", f"{FAULT}\n", 2) if status == 2 else Said(f"{wanted}\n", "", status), said)
 
 
 def changed(certificate, changes):
@@ -143,10 +138,8 @@ def changed(certificate, changes):
         if key == "cycles" and isinstance(value, list):             # as texts of names and causes, too
             value = [re.findall(r"(\S+) (\S+)", it) if isinstance(it, str) else it for it in value]
         key, _, number = key.partition(" ")
-        if number:
-            certificate[key][int(number)] = value
-        else:
-            certificate[key] = value
+        inside, at = (certificate[key], int(number)) if number else (certificate, key)
+        inside[at] = value
     return encoded(json.dumps(certificate).replace(old, new))
 
 

@@ -22,17 +22,15 @@ import re
 
 import check_certificate as model
 import solve_reference as reference
-from checks.compare_audit import STATUS, Columns, fence_of
-from checks.compare_check import mangled
+from checks.compare_audit import STATUS, Columns, fence_of, is_enough, words_of
+from checks.compare_check import compare_mangled, judge_both
 from litmus import Maker
 from running import EXAMPLES, Said, read, rvfence, side_by_side, written
-from verdicts import YES, SitesJudge, verdict_of
 
 NAMES = ["lock", "un_lock", "wmb", "r2d"]
 LINUX = f"{EXAMPLES}/prices-linux.json"
 ONES = model.prices_of(b'{"rw,rw":1}')
-MOST_PLACEMENTS = 130
-MOST_RUNS = 300
+MOST_PLACEMENTS, MOST_RUNS = 130, 300
 POOL = 20           # ten questions have so many tests in common, with other labels
 MANGLED = 6         # certificates that are made of each
 
@@ -97,19 +95,9 @@ class Test:
         """The same by all sites, of which only those count that the test has."""
         return self.allows(*[(name, kinds[name]) for name in sorted(set(self.places.values()))])
 
-    def is_fit(self, chance):
-        """But for some, do fences rule its outcome out?"""
-        return not self.is_allowed(dict.fromkeys(NAMES, "rw,rw")) or chance.random() < 0.25
-
-    def free_slots(self, prefix):
-        """Makes each slot without a label a site of its own."""
-        own = {slot: "%sP%d:%d" % (prefix, *slot) for slot in model.test_of(self.labelled().encode()).slots()}
-        self.places = dict(sorted({**own, **self.places}.items()))
-
 
 class Question:
-    """The question of a number: tests, of which one may stand twice, their files, prices, and the names of the sites in
-    the order in which they stand."""
+    """The question of a number: tests, one perhaps twice, their files, prices, and the sites' names in their order."""
 
     def __init__(self, number, folder):
         self.chance = chance = random.Random(f"sites {number}")
@@ -117,11 +105,16 @@ class Question:
         while True:
             labels, first = NAMES[:chance.choice([1, 2, 2, 3, 4])], POOL * (number // 10)
             made = (Test(first + chance.randrange(POOL), chance, labels) for _ in itertools.count())
-            tests = list(itertools.islice((it for it in made if it.is_fit(chance)), chance.choice([1, 1, 2, 2, 3])))
+            # of most, fences rule the outcome out
+            fit = (it for it in made if not it.is_allowed(dict.fromkeys(NAMES, "rw,rw")) or chance.random() < 0.25)
+            tests = list(itertools.islice(fit, chance.choice([1, 1, 2, 2, 3])))
             chosen = [*range(len(tests)), *[0] * (chance.random() < 0.1)]
             self.tests, self.files = [tests[it] for it in chosen], [f"{folder}/{it}" for it in chosen]
             for test, file in zip(self.tests, self.files) if self.is_free else ():
-                test.free_slots(f"{file}:" if len(chosen) > 1 else "")
+                # each slot without a label is a site of its own
+                prefix = f"{file}:" if len(chosen) > 1 else ""
+                own = {slot: "%sP%d:%d" % (prefix, *slot) for slot in model.test_of(test.labelled().encode()).slots()}
+                test.places = dict(sorted({**own, **test.places}.items()))
             self.names = list(dict.fromkeys(name for test in self.tests for name in test.places.values()))
             counts = [it for it in range(10) if (2 + it) ** len(self.names) <= MOST_PLACEMENTS]
             if counts:
@@ -132,12 +125,6 @@ class Question:
         self.weights = chance.choice([{}, weights, weights])
         self.is_alone = self.is_free and len(self.files) == 1
         self.options = ["--sites", *["--free"] * self.is_free]
-
-    def write(self, folder):
-        """Writes the files, and gives their names, with that of the prices at the end."""
-        prices = {**self.prices, **({"weights": self.weights} if self.weights else {})}
-        tests = [written(file, test.labelled()) for test, file in zip(self.tests, self.files)]
-        return [*tests, written(f"{folder}/prices", json.dumps(prices))]
 
     def price(self, name, kind):
         """What a fence costs; one without a price what the cheapest kind does that orders all that it orders."""
@@ -174,49 +161,25 @@ class Question:
         return next(it[1:] for it in self.placings(top) if it[0].is_allowed(top))
 
 
-def is_enough(kind, other):
-    return model.PAIRS[other] <= model.PAIRS[kind]
-
-
 def compare_execution(run, name, question, lines):
     """Is the last of these lines an execution of the first test that has one?"""
     file, words = question.first_allowed()
     execution = written(f"{run.folder}/execution", lines.pop() if lines else "")
-    run.expect(f"the execution of {name}", YES, rvfence("order", file, execution, *words, *question.options))
+    run.expect(f"the execution of {name}", reference.YES, rvfence("order", file, execution, *words, *question.options))
     return file
-
-
-def compare_answer(run, name, question, placed, found):
-    """Is this what is found, and can it be placed?"""
-    if placed is None:
-        lines = found.out.splitlines()
-        file = compare_execution(run, name, question, lines)
-        run.expect(name, (["none", file][:2 - question.is_alone], 1), (lines, found.status))
-    elif not run.expect(name, Said(question.lines(placed), "", 0), found):
-        print(*[test.labelled() for test in question.tests], question.prices, question.weights, sep="\n")
-    for test, file, words in question.placings(placed) if placed else ():
-        fenced = written(f"{run.folder}/fenced", test.fenced(placed))
-        run.expect(f"place of {name}", rvfence("place", fenced), rvfence("place", file, *words, *question.options))
 
 
 def compare_certificates(run, name, question, files, found, certificates):
     """Do both checkers accept the certificate of this answer, and say the same of others that are made of it?"""
-    path, judge = f"{run.folder}/certificate", SitesJudge(files[:-1], files[-1], question.is_free)
+    path, judge = f"{run.folder}/certificate", model.Judge(files[:-1], files[-1], True, question.is_free)
     said = rvfence("solve", *files, *question.options, "-q", "--cert", path)
     if not run.expect(f"{name}, with --cert", found, said) or said.status == 2:
         return
-    wanted = Said(f"yes\n{found.out}", "", 0)
-    run.expect(f"check of {name}", wanted, rvfence("check", *files, path, *question.options))
-    run.expect(f"check_certificate.py of {name}", wanted, judge.verdict(read(path)))
+    judge_both(run, name, [*files, path], judge, Said(f"yes\n{found.out}", "", 0), *question.options)
     certificates.append(json.loads(read(path)))
     for number in range(MANGLED):
-        dice = random.Random(f"{name} {number}")
-        made = mangled(certificates[-1], dice.choice(certificates), dice)
-        wanted = judge.verdict(json.dumps(made).encode())
-        run.kinds[" ".join(wanted.out.split("\n")[0].split()[:2]) or "fault"] += 1
-        said = rvfence("check", *files, written(path, json.dumps(made)), *question.options)
-        if not run.expect(f"certificate {number} of {name}", wanted, said):
-            print(json.dumps(made))
+        compare_mangled(run, f"certificate {number} of {name}", files, judge, certificates[-1], certificates,
+                        random.Random(f"{name} {number}"), *question.options)
 
 
 class Audited:
@@ -242,27 +205,20 @@ class Audited:
         best, names, cost = self.best, self.question.names, self.question.cost
         is_same = all(len(kinds) == 1 for kinds in self.kinds.values())
         own = {name: next(iter(kinds)) for name, kinds in self.kinds.items()} if is_same else None
-        verdicts = {verdict_of(text.encode(), ONES)[0] for text in self.texts.values()}
+        verdicts = {reference.verdict_of(text.encode(), ONES)[0] for text in self.texts.values()}
         verdict = next(it for it in ["allowed", "forbidden", "vacuous"] if it in verdicts)
         first = f"{verdict} as written, {'copies differ' if own is None else cost(own)}; "
         if best is None:
             return [f"{first}no fences rule it out", self.question.first_allowed()[0]], 1
         first += f"cheapest {cost(best)}"
         if verdict == "forbidden" and own is not None and cost(own) <= cost(best):
-            best = own
+            best = own if all(self.question.price(*it) for it in own.items() if it[1]) else best  # each has a cost
         lines, wide = [], max(map(len, names), default=0)
         for name, kind in itertools.product(names, [None, *model.KINDS]):
             if kind in self.kinds[name] and (kind or best[name]):
                 where = " ".join(self.kinds[name][kind])
-                lines.append(f"{name:{wide}}  {kind or 'none':5}  {said_of(kind, best[name]):16} {where}")
-        return [first, *lines], STATUS.get(verdict, int(not all("  needed  " in line for line in lines)))
-
-
-def said_of(kind, best):
-    """What is said of a FENCE of this kind, or of none, where this is advised."""
-    if kind is None or best is None:
-        return "not needed" if kind else f"{best} is missing"
-    return "needed" if kind == best else f"{best} {'is enough' if is_enough(kind, best) else 'instead'}"
+                lines.append(f"{name:{wide}}  {kind or 'none':5}  {words_of(kind, best[name]):16} {where}")
+        return [first, *lines], STATUS[verdict] or int(not all("  needed  " in line for line in lines))
 
 
 def compare_audit(run, name, audited, prices):
@@ -278,30 +234,35 @@ def compare_audit(run, name, audited, prices):
         print(*audited.texts.values(), read(prices), sep="\n")
 
 
-def compare(run, number, certificates):
-    """Compares the answers to the question of this number."""
-    question, name = Question(number, run.folder), f"question {number}"
-    files, placed = question.write(run.folder), question.answer()
-    found = rvfence("solve", *files, *question.options, "-q")
-    run.kinds["none" if placed is None else "fenced"] += 1
-    compare_answer(run, name, question, placed, found)
-    compare_certificates(run, name, question, files, found, certificates)
-    if not question.is_free:
-        compare_audit(run, name, Audited(question, placed), files[-1])
-
-
-def compare_alone(run, path):
-    """Is the answer of a test, which has no labels that name sites, that of its slots?"""
-    for prices in [LINUX, f"{run.folder}/weights"]:
-        wanted = rvfence("solve", path, prices, "-q")
-        run.expect(f"{path} at {prices} as sites", wanted, rvfence("solve", path, prices, "-q", "--sites", "--free"))
-
-
 def check(run):
     certificates = []
     for number in run.numbers():
-        compare(run, number, certificates)
+        question, name = Question(number, run.folder), f"question {number}"
+        prices = {**question.prices, **({"weights": question.weights} if question.weights else {})}
+        files = [written(file, test.labelled()) for test, file in zip(question.tests, question.files)]
+        files, placed = [*files, run.file("prices", json.dumps(prices))], question.answer()
+        found = rvfence("solve", *files, *question.options, "-q")
+        run.kinds["none" if placed is None else "fenced"] += 1
+        # is this what is found, and can it be placed?
+        if placed is None:
+            lines = found.out.splitlines()
+            file = compare_execution(run, name, question, lines)
+            run.expect(name, (["none", file][:2 - question.is_alone], 1), (lines, found.status))
+        elif not run.expect(name, Said(question.lines(placed), "", 0), found):
+            print(*[test.labelled() for test in question.tests], question.prices, question.weights, sep="\n")
+        for test, file, placing in question.placings(placed) if placed else ():
+            fenced = rvfence("place", run.file("fenced", test.fenced(placed)))
+            run.expect(f"place of {name}", fenced, rvfence("place", file, *placing, *question.options))
+        compare_certificates(run, name, question, files, found, certificates)
+        if not question.is_free:
+            compare_audit(run, name, Audited(question, placed), files[-1])
     weights = {"weights": {f"P{hart}:{at}": (hart + at) % 4 for hart in range(4) for at in range(10)}}
-    written(f"{run.folder}/weights", json.dumps({**json.loads(read(LINUX)), **weights}))
+    lists = [LINUX, run.file("weights", json.dumps({**json.loads(read(LINUX)), **weights}))]
     paths = [path for folder in ["", "idioms/", "tests/"] for path in sorted(glob.glob(f"{EXAMPLES}/{folder}*.litmus"))]
-    side_by_side(lambda path: compare_alone(run, path), paths)
+
+    def compare_alone(words):
+        """Is the answer of a test, which has no labels that name sites, that of its slots?"""
+        said = rvfence("solve", *words, "-q", "--sites", "--free")
+        run.expect(f"{' at '.join(words)} as sites", rvfence("solve", *words, "-q"), said)
+
+    side_by_side(compare_alone, list(itertools.product(paths, lists)))

@@ -16,8 +16,8 @@ import stat
 import subprocess
 import tempfile
 
-from checks import transcripts
-from running import EXAMPLES, LONGEST, PRICES, Said, compiled, program, ran, read, text_of, waited_for, written
+from running import (EXAMPLES, LONGEST, PRICES, TOP, Said, compiled, expanded, program, ran, read, rows, text_of,
+                     waited_for, written)
 
 MISSING, FOLDER, UNREAD = "there is no such file", "it is a folder", "it can't be opened or read"
 UNWRITTEN = Said("", "fault F21 WriteFault\n", 2)
@@ -25,7 +25,7 @@ OLD, NONE = {"kept.json": b"old"}, {}       # what is in a folder where a certif
 NOBODY = 65534
 STREAMS = [[0], [1], [2], [0, 1], [0, 2], [1, 2], [0, 1, 2]]
 # store buffering in the printed form, an execution of it, and its answer
-SB = text_of(f"{transcripts.FOLDER}/files/printed.litmus")
+SB = text_of(f"{TOP}/scripts/transcripts/files/printed.litmus")
 SB_WITNESS = '{"choices":[[0],[0]],"order":["P0:1","P1:1","P0:0","P1:0"]}'
 SB_ANSWER = Said("fenced 18\nfence P0 1 w,r\nfence P1 1 w,r\n", "", 0)
 
@@ -39,23 +39,19 @@ class Checks:
     """A folder with the files of store buffering, and the counts."""
 
     def __init__(self, run):
-        folder = self.folder = run.folder
-        self.check, self.expect = run.check, run.expect
+        folder, self.folder, self.check, self.expect = run.folder, run.folder, run.check, run.expect
         os.chmod(folder, 0o755)         # a user who may read little must reach the program and the files
         self.program, self.prices = shutil.copy(program(), folder), shutil.copy(PRICES, folder)
         self.test, witness = written(f"{folder}/sb.litmus", SB), written(f"{folder}/witness.json", SB_WITNESS)
         self.hinder = compiled("checks/hinder.c", folder, "-shared", "-fPIC")
         self.certificate = f"{folder}/certificate.json"
         self.certify(self.certificate)
-        self.whole = {"kept.json": read(self.certificate)}
+        self.whole, self.commands = {"kept.json": read(self.certificate)}, {}
+        paths = {"TEST": self.test, "WITNESS": witness, "PRICES": self.prices, "CERTIFICATE": self.certificate}
         # each command with its words, and what it says
-        self.commands = {
-            "place": (["place", self.test], Said(SB, "", 0)),
-            "order": (["order", self.test, witness], Said("yes\n", "", 0)),
-            "order, no": (["order", self.test, witness, "P0:1=w,r"], Said("no: rule 4 P0:0 P0:1\n", "", 1)),
-            "solve": (["solve", self.test, self.prices], SB_ANSWER),
-            "check": (["check", self.test, self.prices, self.certificate], Said(f"yes\n{SB_ANSWER.out}", "", 0)),
-        }
+        for name, words, status, out in (row.split(" | ") for row in rows("devices", "commands")):
+            said = Said(SB if out == "PRINTED" else expanded(out), "", int(status))
+            self.commands[name] = [paths.get(word, word) for word in words.split()], said
 
     def run(self, words, **options):
         """What the program says. Signals do what they do in a shell."""
@@ -76,7 +72,6 @@ def folder_with(checks, kept):
 
 
 def contents(folder):
-    """The files of a folder with what is in them."""
     return {name: read(f"{folder}/{name}") for name in os.listdir(folder)}
 
 
@@ -98,61 +93,55 @@ def check_readers(checks):
     locked = written(f"{checks.folder}/locked", "RISCV T\n")
     os.chmod(locked, 0)
     others = {"user": NOBODY, "group": NOBODY, "extra_groups": []} if os.geteuid() == 0 else {}
-    failing = {"a missing file": (f"{checks.folder}/missing", MISSING), "a folder": (checks.folder, FOLDER),
-               "an empty name": ("", MISSING), "the memory of a process": ("/proc/self/mem", UNREAD),
-               "a name below a file": (f"{checks.test}/x", UNREAD), "a name of 300 letters": ("n" * 300, UNREAD),
-               "a locked file": (locked, UNREAD)}
-    lines = [checks.commands[name][0] for name in ("order", "solve", "check")]
-    for line in [["place", checks.test, "--prices", checks.prices], *lines]:
-        for at in range(1, len(line)):
-            for name, (path, why) in failing.items() if line[at] != "--prices" else ():
-                for more, wanted in ([], unread(path, why)), (["-q"], Said("", "fault F20 ReadFault\n", 2)):
-                    words = [*line[:at], path, *line[at + 1:], *more]
-                    found = checks.run(words, **(others if path == locked else {}))
-                    checks.expect(f"{name} as word {at} of {' '.join([line[0], *more])}", wanted, found)
+    failing = [[it.strip() for it in row.split("|")] for row in rows("devices", "unread")]
+    lines = [["place", checks.test, "--prices", checks.prices]]
+    lines += [checks.commands[name][0] for name in ("order", "solve", "check")]
+    for line, (name, path, why), more in itertools.product(lines, failing, ([], ["-q"])):
+        path = expanded(path.replace("FOLDER", checks.folder))
+        for at in [at for at in range(1, len(line)) if line[at] != "--prices"]:
+            found = checks.run([*line[:at], path, *line[at + 1:], *more], **(others if path == locked else {}))
+            wanted = Said("", "fault F20 ReadFault\n", 2) if more else unread(path, why)
+            checks.expect(f"{name} as word {at} of {' '.join([line[0], *more])}", wanted, found)
 
 
-def check_inputs(checks):
-    """Standard input that is closed, a folder, open for writing alone, or a connection that breaks before its end."""
-    for command, (words, _) in checks.commands.items():
-        words = [words[0], "stdin", *words[2:]]
-        failed = unread("stdin", UNREAD)
-        checks.expect(f"{command}: standard input is closed", failed, checks.run(words, preexec_fn=before(0)))
-        for name, path, how, wanted in (("open for writing alone", os.devnull, os.O_WRONLY, failed),
-                                        ("a folder", checks.folder, os.O_RDONLY, unread("stdin", FOLDER))):
+def check_streams(checks):
+    """Standard input or output that is closed, a folder, full, or open for the other use alone; input that breaks
+    before its end; and output that nobody reads, or that takes some bytes."""
+    for command, (words, answer) in checks.commands.items():
+        checks.expect(f"{command}: all is well", answer, checks.run(words))
+        reading, failed = [words[0], "stdin", *words[2:]], unread("stdin", UNREAD)
+        checks.expect(f"{command}: standard input is closed", failed, checks.run(reading, preexec_fn=before(0)))
+        checks.expect(f"{command}: standard output is closed", UNWRITTEN, checks.run(words, preexec_fn=before(1)))
+        for stream, path, how, line, wanted in (("stdin", os.devnull, os.O_WRONLY, reading, failed),
+                                                ("stdin", checks.folder, os.O_RDONLY, reading, unread("stdin", FOLDER)),
+                                                ("stdout", os.devnull, os.O_RDONLY, words, UNWRITTEN),
+                                                ("stdout", "/dev/full", os.O_WRONLY, words, UNWRITTEN)):
             file = os.open(path, how)
-            checks.expect(f"{command}: standard input is {name}", wanted, checks.run(words, stdin=file))
+            checks.expect(f"{command}: {stream} is {path}, opened by {how}", wanted, checks.run(line, **{stream: file}))
             os.close(file)
         for size in (0, 1, 20, 8192, 100_000):
             settings = hindering(checks, "end", errno.ECONNRESET, name="pipe:")
-            found = checks.run(words, stdin=SB.ljust(size)[:size], env=settings)
+            found = checks.run(reading, stdin=SB.ljust(size)[:size], env=settings)
             checks.expect(f"{command}: a connection that breaks after {size} bytes", failed, found)
-
-
-def check_outputs(checks):
-    """Standard output that is closed, full, open for reading alone, a pipe that nobody reads, or takes some bytes."""
-    for command, (words, answer) in checks.commands.items():
-        checks.expect(f"{command}: all is well", answer, checks.run(words))
-        checks.expect(f"{command}: standard output is closed", UNWRITTEN, checks.run(words, preexec_fn=before(1)))
-        for name, path, mode in (("full", "/dev/full", "wb"), ("open for reading alone", "/dev/null", "rb")):
-            with open(path, mode) as file:
-                checks.expect(f"{command}: standard output is {name}", UNWRITTEN, checks.run(words, stdout=file))
-        reading, writing = os.pipe()
-        os.close(reading)
-        for name, is_ignored in (("", False), (", and the signal ignored", True)):
+        for is_ignored in (False, True):
+            end, writing = os.pipe()
+            os.close(end)
             found = checks.run(words, stdout=writing, restore_signals=not is_ignored)
-            checks.expect(f"{command}: nobody reads what is printed{name}", UNWRITTEN, found)
-        os.close(writing)
+            checks.expect(f"{command}: nobody reads what is printed, ignored: {is_ignored}", UNWRITTEN, found)
+            os.close(writing)
         for size, is_ignored, old in itertools.product(range(len(answer.out) + 1), (True, False), ("", "old\n")):
-            path = f"{checks.folder}/printed"
-            written(path, old)
-            with open(path, "ab") as file:
-                limits = before(size=size + len(old), is_ignored=is_ignored)
-                found = checks.run(words, stdout=file, preexec_fn=limits)
+            found, taken = taking(checks, words, "stdout", size, is_ignored, old)
             wanted = answer if size == len(answer.out) else UNWRITTEN._replace(out=answer.out[:size])
-            found = found._replace(out=text_of(path).removeprefix(old))
-            name = f"{command}: standard output takes {size} bytes behind {old!r}"
-            checks.expect(name + ("" if is_ignored else ", or a signal comes"), wanted, found)
+            name = f"{command}: standard output takes {size} bytes behind {old!r}, ignored: {is_ignored}"
+            checks.expect(name, wanted, found._replace(out=taken))
+
+
+def taking(checks, words, stream, size, is_ignored, old=""):
+    """What a run says of which one output goes to a file that takes so many bytes more; and these."""
+    path = written(f"{checks.folder}/printed", old)
+    with open(path, "ab") as file:
+        found = checks.run(words, preexec_fn=before(size=size + len(old), is_ignored=is_ignored), **{stream: file})
+    return found, text_of(path).removeprefix(old)
 
 
 def check_errors(checks):
@@ -160,12 +149,9 @@ def check_errors(checks):
     missing = ["place", f"{checks.folder}/missing"]
     line = unread(missing[1], MISSING).err
     for size, is_ignored in itertools.product(range(0, len(line) + 8, 7), (True, False)):
-        path = f"{checks.folder}/said"
-        with open(path, "wb") as file:
-            found = checks.run(missing, stderr=file, preexec_fn=before(size=size, is_ignored=is_ignored))
+        found, taken = taking(checks, missing, "stderr", size, is_ignored)
         wanted = "".join(it for it in line.splitlines(keepends=True) if line.index(it) + len(it) <= size)
-        is_right = found.status == 2 and text_of(path) == wanted
-        checks.check(f"standard error takes {size} bytes, ignored: {is_ignored}", is_right, (found, wanted))
+        checks.expect(f"standard error takes {size} bytes, ignored: {is_ignored}", (2, wanted), (found.status, taken))
 
 
 def check_certificates(checks):
@@ -180,8 +166,7 @@ def check_certificates(checks):
             answer, left = (SB_ANSWER, checks.whole) if size == room else (UNWRITTEN, kept)
             if closed:
                 said, answer = said.status, 2 if 1 in closed else answer.status
-            name = f"streams {closed} closed, room for {size} bytes of a certificate, {kept} there"
-            name += "" if is_ignored else ", or a signal comes"
+            name = f"streams {closed} closed, room for {size} bytes of a certificate, {kept} there, {is_ignored}"
             checks.expect(name, (answer, left), (said, contents(folder)))
 
 
@@ -233,8 +218,7 @@ def check_ended_runs(checks):
             held = Held(checks, folder, checks.test, call)
             held.child.send_signal(number)
             held.let_go()
-            left = contents(folder)
-            name = f"signal {number} before {call}, {kept} there"
+            left, name = contents(folder), f"signal {number} before {call}, {kept} there"
             certificate = {it: left[it] for it in left if it != "kept.json.part"}
             checks.check(name, certificate in (kept, checks.whole), left)
             checks.expect(f"{name}: a later run", SB_ANSWER, checks.certify(path))
@@ -254,8 +238,7 @@ def check_modes(checks):
                 held = Held(checks, folder, checks.test, "write")
                 during = stat.S_IMODE(os.stat(f"{path}.part").st_mode)
                 checks.check(f"mode {mode:o} at mask {mask:o}, while it is written", not during & ~mode)
-                said = held.let_go()
-                found = (said, contents(folder), mode_of(path))
+                found = (held.let_go(), contents(folder), mode_of(path))
                 checks.expect(f"mode {mode:o} at mask {mask:o}", (SB_ANSWER, checks.whole, oct(mode)), found)
         path = f"{checks.folder}/new.json"
         checks.certify(path)
@@ -294,6 +277,6 @@ def check_interrupted(checks):
 
 def check(run):
     checks = Checks(run)
-    for part in (check_readers, check_inputs, check_outputs, check_errors, check_certificates, check_two_runs,
-                 check_ended_runs, check_modes, check_interrupted):
+    for part in (check_readers, check_streams, check_errors, check_certificates, check_two_runs, check_ended_runs,
+                 check_modes, check_interrupted):
         part(checks)

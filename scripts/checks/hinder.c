@@ -1,8 +1,10 @@
-/* A library to be put before a program by LD_PRELOAD: it hinders the calls HINDER_CALL (statx, open, fchmod, read,
+/* A library to be put before a program by LD_PRELOAD. It hinders the calls HINDER_CALL (statx, open, fchmod, read,
  * write, rename, unlink, or `end` for a read that finds the end) of files whose names have HINDER_NAME in them. Where
  * HINDER_ERROR is set, the first HINDER_COUNT of them fail with this number of an error. Else the program stops before
- * the first one, until a signal has it go on. */
+ * the first one, until a signal has it go on. And it refuses the request for memory of number REFUSE_AT (from 1), and
+ * where REFUSE_COUNT names a file, it writes there how many requests came, over all threads in their order. */
 #define _GNU_SOURCE
+#include <dlfcn.h>
 #include <errno.h>
 #include <fcntl.h>
 #include <limits.h>
@@ -16,7 +18,7 @@
 #include <sys/syscall.h>
 #include <unistd.h>
 
-static atomic_long calls;
+static atomic_long calls, requests;
 
 static int is_failing(const char *call, const char *path) {
     const char *wanted = getenv("HINDER_CALL"), *error = getenv("HINDER_ERROR");
@@ -63,4 +65,45 @@ int open(const char *path, int flags, ...) {
     int mode = flags & O_CREAT ? va_arg(more, int) : 0;
     va_end(more);
     return is_failing("open", path) ? -1 : (int)syscall(SYS_openat, AT_FDCWD, path, flags, mode);
+}
+
+static int is_refused(void) {
+    const char *at = getenv("REFUSE_AT");
+    long number = atomic_fetch_add(&requests, 1) + 1;
+    if (at == NULL || atol(at) != number)
+        return 0;
+    errno = ENOMEM;
+    return 1;
+}
+
+// A function of the C library that answers `refused` where its request is the one to refuse.
+#define REFUSABLE(result, name, parameters, arguments, refused)      \
+    result name parameters {                                         \
+        static result(*_Atomic next) parameters;                     \
+        if (next == NULL)                                            \
+            next = (result(*) parameters)dlsym(RTLD_NEXT, #name);    \
+        return is_refused() ? refused : next arguments;              \
+    }
+
+REFUSABLE(void *, malloc, (size_t size), (size), NULL)
+REFUSABLE(void *, calloc, (size_t count, size_t size), (count, size), NULL)
+REFUSABLE(void *, realloc, (void *old, size_t size), (old, size), NULL)
+REFUSABLE(void *, aligned_alloc, (size_t alignment, size_t size), (alignment, size), NULL)
+REFUSABLE(int, posix_memalign, (void **made, size_t alignment, size_t size), (made, alignment, size), ENOMEM)
+
+__attribute__((destructor)) static void report(void) {
+    const char *path = getenv("REFUSE_COUNT");
+    long count = requests;
+    FILE *file = path == NULL ? NULL : fopen(path, "w");
+    if (file != NULL) {
+        fprintf(file, "%ld\n", count);
+        fclose(file);
+    }
+}
+
+/* A program that may have threads ends by this, and no destructor is called. */
+void _exit(int status) {
+    report();
+    syscall(SYS_exit_group, status);
+    __builtin_unreachable();
 }

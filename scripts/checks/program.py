@@ -9,33 +9,67 @@ import json
 import os
 import re
 import shutil
+import tempfile
 import time
 
 import check_certificate as model
 from bench_tests import votes
-from checks.transcripts import FOLDER, Transcripts, blocks_of
-from running import (EXAMPLES, PRICES, TOP, compact, program, ran, ran_on_terminal, rvfence, side_by_side,
-                     stored_answers, tests_of_examples, text_of, transcript, written)
-from verdicts import YES
+from running import (EXAMPLES, LONGEST, PRICES, TOP, compact, compiled, program, ran, ran_on_terminal, rvfence,
+                     side_by_side, stored_answers, tests_of_examples, text_of, transcript, written)
+from solve_reference import YES
 
+FOLDER = f"{TOP}/scripts/transcripts"
 SEVERAL = r"\d+(?:, \d+)*(?: and \d+)?"
 PIECE = rf"in (?:ones? like )?cycles? {SEVERAL}|in \d+ more kinds?"
+# how blocks begin that `--why` prints: contradictions, and executions without a fence or with all
+CHAIN = re.compile(r"(cycle|stale|not atomic) (\d+)")
+FENCE = re.compile(r"(\S+) before (P\d+):(\d+) \(line (\d+),.*\)(.*)")
+EXECUTION = "The outcome can be "
+ALL_TESTS = [*tests_of_examples(), *glob.glob(f"{EXAMPLES}/tests/*.litmus")]
 
 
-def check_transcripts(checks):
-    """All of scripts/transcripts/, with the files there."""
-    shutil.copytree(f"{FOLDER}/files", checks.folder, dirs_exist_ok=True)
-    blocks = [block for path in sorted(glob.glob(f"{FOLDER}/*.txt")) for block in blocks_of(path)]
-    side_by_side(checks.check_block, blocks)
+def blocks_of(path):
+    """The blocks of a transcript: of each its name, its command and what is printed."""
+    text = re.sub("(?m)^## .*\n", "", text_of(path)).strip("\n")
+    for block in text.split("\n\n"):
+        name, command, wanted = block.split("\n", 2)
+        yield name.removeprefix("# "), command.removeprefix("$ "), wanted
+
+
+class Transcripts:
+    """A run, with the examples in its folder, and the program where it is wanted. Commands call functions of a file."""
+
+    def __init__(self, run, seconds=LONGEST, functions=f"{FOLDER}/functions.sh", has_program=True):
+        self.folder, self.check, self.expect = run.folder, run.check, run.expect
+        self.seconds, self.functions = seconds, functions
+        os.mkdir(f"{self.folder}/bin")
+        os.symlink(EXAMPLES, f"{self.folder}/examples")
+        if has_program:                 # under the name that help prints
+            os.symlink(program(), f"{self.folder}/bin/rvfence")
+
+    def shell(self, command, own=None, **options):
+        """What a command says, for which `rvfence` is the program and $own a folder."""
+        environment = {**os.environ, "PATH": f"{self.folder}/bin:{os.environ['PATH']}", "own": own or self.folder}
+        options = {"cwd": self.folder, "env": environment, "seconds": self.seconds, **options}
+        return ran(["bash", "-c", command], **options)
+
+    def check_block(self, block):
+        """Checks a block: in it a line of standard error stands behind `! `, and `! ...` for whatever is said there."""
+        name, command, wanted = block
+        with tempfile.TemporaryDirectory() as own:
+            said = self.shell(f"source {self.functions}\n{command}", own)
+        error = re.sub("(?m)^", "! ", said.err[:-1]) + "\n" if said.err else ""
+        if error and "\n! ...\n" in f"\n{wanted}":
+            error = "! ...\n"
+        self.expect(f"{name}: {command}", wanted, f"{said.out}{error}[status {said.status}]")
 
 
 def check_examples(checks):
     """The examples: a line `$ rvfence WORD..`, run in examples/, and the transcript. A printed test prints the same."""
     for path in glob.glob(f"{EXAMPLES}/answers/*.txt"):
         command, wanted = text_of(path).rstrip("\n").split("\n", 1)
-        quiet = ["-q"] if command.startswith("$ rvfence solve ") else []
-        found = rvfence(*command.removeprefix("$ rvfence ").split(), *quiet, cwd=EXAMPLES)
-        checks.expect(path, wanted, transcript(found))
+        words = command.removeprefix("$ rvfence ").split()
+        checks.expect(path, wanted, transcript(rvfence(*words, *["-q"] * (words[0] == "solve"), cwd=EXAMPLES)))
     for test in tests_of_examples():
         once = rvfence("place", test)
         checks.expect(f"{test} is answered", ("", 0), once[1:])
@@ -109,14 +143,13 @@ def done_by(test, operation):
     loaded, stored = (f"&{names[it]}" if it in names else str(it) for it in (operation.loaded, operation.stored))
     at = names[operation.address]
     if operation.loads:
-        return f"reads {at}={loaded}" + (f", stores {stored}" if operation.stores else "")
+        return f"reads {at}={loaded}" + f", stores {stored}" * operation.stores
     return f"stores {at}={stored}"
 
 
 def told(test, block):
     """The witness that is told there, as JSON: of each hart the choices of the run that does what is told of it."""
-    rows = re.findall(r"(?m)^  (P(\d+):\d+) +line .*  ((?:reads|stores) .*)$", block)
-    choices = []
+    rows, choices = re.findall(r"(?m)^  (P(\d+):\d+) +line .*  ((?:reads|stores) .*)$", block), []
     for hart, runs in enumerate(model.all_runs(test)):
         source = r" (\(initial\)|from P\d+:\d+(, still in its store buffer)?)"
         does = {name: re.sub(source, "", it) for name, of, it in rows if int(of) == hart}
@@ -127,8 +160,7 @@ def told(test, block):
 
 def faults_of_chain(block, placed):
     """What is wrong with a contradiction that is told, where these fences are placed, by kind and line."""
-    names = re.findall(r"(?m)^  (P\d+:\d+) +line ", block)
-    arrows = re.findall(r"(?m)^    \|   (.*)$", block)
+    names, arrows = re.findall(r"(?m)^  (P\d+:\d+) +line ", block), re.findall(r"(?m)^    \|   (.*)$", block)
     is_cycle, last = block.startswith("cycle "), block.rstrip().split("\n")[-1]
     if is_cycle and (last != f"  {names[0]}  again" or len(arrows) != len(names)):
         yield "it doesn't end where it began"
@@ -143,18 +175,18 @@ def check_contradictions(checks, path, head, blocks, placed):
     """Of fences it is told why they rule the outcome out, in chains by fences of the answer, and what needs each."""
     is_told = bool(blocks) and re.match(r"Each way to the outcome that |No values that the loads ", blocks[0])
     checks.expect(f"whether contradictions are told of {path}", head.startswith("fenced"), bool(is_told))
-    chains = [block for block in blocks if re.match(r"(cycle|stale|not atomic) \d+", block)]
+    chains = [block for block in blocks if CHAIN.match(block)]
     checks.expect(f"whether a chain is told of {path}", bool(is_told) and blocks[0].startswith("Each"), bool(chains))
     for block in chains:
         checks.expect(f"what is wrong with this of {path}: {block}", [], [*faults_of_chain(block, placed)])
     told = {block.split()[1]: block for block in chains if block.startswith("cycle ")}
-    for fence, cycles in placed.items():
+    for (kind, line), cycles in placed.items():
         said = re.fullmatch(rf": (?:{PIECE})(?:(?:,| and) (?:{PIECE}))*", cycles)
         own, alike = (set(re.findall(r"\d+", " ".join(re.findall(rf"in {word}cycles? ({SEVERAL})", cycles))))
                       for word in ("", "ones? like "))
-        where = rf"fence {fence[0]} before line {fence[1]} |fences \(rule 4"
+        where = rf"fence {kind} before line {line} |fences \(rule 4"
         is_right = said and own | alike <= told.keys() and all(re.search(where, told[number]) for number in own)
-        checks.check(f"{path}: whether {fence} is in cycles that are told{cycles}", is_right)
+        checks.check(f"{path}: whether {kind} in line {line} is in cycles that are told{cycles}", is_right)
 
 
 def check_why(checks):
@@ -164,15 +196,15 @@ def check_why(checks):
         head, *blocks = rvfence("solve", path, PRICES, "--why", "-q").out.split("\n\n")
         fences, test = fences_of(head.split("\n")), model.read(path, model.test_of)
         cases = [(fence, [it for it in fences if it != fence]) for fence in fences]
-        told_of = [block for block in blocks if re.match(r"\S+ before P\d+:\d+ \(line |The outcome can be ", block)]
-        named = [re.match(r"(\S+) before \S+ \(line (\d+),.*\)(.*)", it) for it in told_of if " before P" in it[:20]]
-        placed = {it.groups()[:2]: it[3] for it in named}
+        told_of = [block for block in blocks if FENCE.match(block) or block.startswith(EXECUTION)]
+        named = [it for it in map(FENCE.match, told_of) if it]
+        placed = {(it[1], it[4]): it[5] for it in named}
         check_contradictions(checks, path, head, [it for it in blocks if it not in told_of], placed)
         if head.startswith("none"):
             cases = [("all", [f"P{hart}:{at}=rw,rw" for hart, at in test.slots()])]
         else:
-            lines = [re.sub(r"(\S+) before (\S+) .*", r"\2=\1", block.split("\n")[0]) for block in told_of]
-            checks.expect(f"the fences of which is told of {path}", fences, lines)
+            words = [f"{it[2]}:{it[3]}={it[1]}" for it in named]
+            checks.expect(f"the fences of which is told of {path}", fences, words)
         for (fence, words), block in zip(cases, told_of, strict=True):
             witness = written(f"{checks.folder}/witness.json", told(test, block))
             said, rows = rvfence("order", path, witness, *words, "--why"), block.partition("memory:\n")[2]
@@ -181,11 +213,11 @@ def check_why(checks):
 
 def check_forbidden(checks):
     """`test --why` tells of each forbidden example contradictions, at most as many as it counts, by written fences."""
-    for path in [*tests_of_examples(), *glob.glob(f"{EXAMPLES}/tests/*.litmus")]:
+    for path in ALL_TESTS:
         head, *blocks = rvfence("test", path, "--why", "-q").out.split("\n\n")
         if counted := re.search(r"  forbidden  (?:(\d+) contradiction|no )", head):
             rows = [" ".join(line.split()) for line in text_of(path).split("\n")]
-            chains = [block for block in blocks if re.match(r"(cycle|stale|not atomic) \d+", block)]
+            chains = list(filter(CHAIN.match, blocks))
             is_right = min(int(counted[1] or 0), 1) <= len(chains) <= int(counted[1] or 0)
             checks.check(f"how many contradictions are told of {path}", is_right, head)
             for block in chains:
@@ -195,11 +227,6 @@ def check_forbidden(checks):
                 checks.expect(f"what is wrong with this of {path}: {block}", [], faults)
 
 
-def arrows_of(picture):
-    """The arrows of a picture in DOT that aren't program order, each as both its ends."""
-    return re.findall(r'(?m)^  "(P\d+:\d+)" -> "(P\d+:\d+)" \[x?label=" ', picture)
-
-
 def check_pictures(checks):
     """`solve --dot` draws what `solve --why` tells: of each cycle an arrow for each of its own, of each fence the
     execution without it. Graphviz's `dot`, where there is one, takes all without a word."""
@@ -207,18 +234,19 @@ def check_pictures(checks):
         folder, name = f"{checks.folder}/pictures", os.path.basename(path).removesuffix(".litmus")
         os.makedirs(folder)
         blocks = rvfence("solve", path, PRICES, "--why", "--dot", folder, "-q").out.split("\n\n")
-        drawn = {os.path.basename(it): text_of(it) for it in glob.glob(f"{folder}/*.dot")}
-        wanted = {f"{name}-execution.dot" for it in blocks if it.startswith("The outcome can be ")}
-        fences = map(re.compile(r"\S+ before (P\d+):(\d+) \(").match, blocks)
-        wanted |= {f"{name}-without-{it[1]}-{it[2]}.dot" for it in fences if it}
+        drawn, wanted = {os.path.basename(it): text_of(it) for it in glob.glob(f"{folder}/*.dot")}, set()
         for block in blocks:
-            if chain := re.match(r"(cycle|stale|not atomic) (\d+)", block):
+            if chain := CHAIN.match(block):
                 file = f"{name}-{chain[1].replace(' ', '-')}-{chain[2]}.dot"
                 names = re.findall(r"(?m)^  (P\d+:\d+) +line ", block)
                 wanted.add(file)
-                if block.startswith("cycle "):
-                    arrows = list(zip(names, names[1:] + names[:1]))
-                    checks.expect(f"the arrows of {file}", arrows, arrows_of(drawn.get(file, "")))
+                if chain[1] == "cycle":         # its arrows that aren't program order, each as both its ends
+                    arrows = re.findall(r'(?m)^  "(P\d+:\d+)" -> "(P\d+:\d+)" \[x?label=" ', drawn.get(file, ""))
+                    checks.expect(f"the arrows of {file}", list(zip(names, names[1:] + names[:1])), arrows)
+            elif fence := FENCE.match(block):
+                wanted.add(f"{name}-without-{fence[2]}-{fence[3]}.dot")
+            elif block.startswith(EXECUTION):
+                wanted.add(f"{name}-execution.dot")
         checks.expect(f"the pictures of {path}", sorted(wanted), sorted(drawn))
         for it in sorted(drawn) if shutil.which("dot") else []:
             said = ran(["dot", "-Tsvg", "-o", "/dev/null", f"{folder}/{it}"])
@@ -226,35 +254,27 @@ def check_pictures(checks):
         shutil.rmtree(folder)
 
 
-def answer_of(found):
-    """The lines of `solve` that say what its JSON object says."""
+def lines_of(found, fault):
+    """The lines that say what a JSON object of `solve` or `check` says; nothing where it says this very fault."""
+    if found.get("verdict") == "fault":
+        return found["why"].removeprefix(fault)
+    if "valid" in found:
+        return f"yes\n{lines_of(found['answer'], fault)}" if found["valid"] else f"no: {found['reason']}\n"
     if found["answer"] == "none":
         return f"none\n{compact(found['witness'])}\n"
     fences = [f"fence P{fence['hart']} {fence['before']} {fence['kind']}\n" for fence in found["fences"]]
     return "".join([f"fenced {found['cost']}\n", *fences])
 
 
-def lines_of(plain, said, text_of):
-    """The run with `--json` with what the lines say in place of its object; nothing where that says this very fault."""
-    found = json.loads(said.out)
-    if plain.status != 2:
-        return said._replace(out=text_of(found))
-    is_same = found["verdict"] == "fault" and found["why"] == plain.err.partition("\n")[0]
-    return said._replace(out="" if is_same else said.out)
-
-
 def check_objects(checks):
     """With `--json` `solve` and `check` say what they say without, of each example and each certificate."""
-    def verdict_of(found):
-        return f"yes\n{answer_of(found['answer'])}" if found["valid"] else f"no: {found['reason']}\n"
-
-    for test in [*tests_of_examples(), *glob.glob(f"{EXAMPLES}/tests/*.litmus")]:
-        plain, said = rvfence("solve", test, PRICES), rvfence("solve", test, PRICES, "--json")
-        checks.expect(f"the object of the answer for {test}", plain, lines_of(plain, said, answer_of))
-    for path, name in itertools.product(sorted(glob.glob(f"{EXAMPLES}/certificates/*.json")), ("MP", "SB", "MP11")):
-        words = ["check", f"{EXAMPLES}/{name}.litmus", PRICES, path]
+    runs = [["solve", test, PRICES] for test in ALL_TESTS]
+    runs += [["check", f"{EXAMPLES}/{name}.litmus", PRICES, path] for path, name in itertools.product(
+        sorted(glob.glob(f"{EXAMPLES}/certificates/*.json")), ("MP", "SB", "MP11"))]
+    for words in runs:
         plain, said = rvfence(*words), rvfence(*words, "--json")
-        checks.expect(f"the object of {path} for {name}", plain, lines_of(plain, said, verdict_of))
+        lines = lines_of(json.loads(said.out), plain.err.partition("\n")[0])
+        checks.expect(f"the object of {words}", plain, said._replace(out=lines))
 
 
 def check_messages(checks):
@@ -266,13 +286,12 @@ def check_messages(checks):
     for words in (["place", test], ["order", test, PRICES], ["solve", test, PRICES], ["check", test, PRICES, PRICES],
                   ["audit", test, PRICES], ["test", test]):
         first, elsewhere = "" if words[0] == "test" else line, message if words[0] in ("test", "audit") else ""
-        for name, more, wanted in (("", [], f"{first}{message}"), (" with -v", ["-v"], f"{first}{message}"),
-                                   (" with -q", ["-q"], first), (" with both", ["-v", "-q"], first)):
-            shown = ran_on_terminal([program(), *words, *more])
-            said = rvfence(*words, *more)
-            expected = f"{first}{elsewhere}" if not more else wanted
-            checks.expect(f"{words[0]}{name} on a terminal", wanted.replace("\n", "\r\n"), shown.err)
-            checks.expect(f"{words[0]}{name} elsewhere", (shown.out, expected, shown.status), tuple(said))
+        for more in ([], ["-v"], ["-q"], ["-v", "-q"]):
+            shown, said = ran_on_terminal([program(), *words, *more]), rvfence(*words, *more)
+            wanted, name = first + message * ("-q" not in more), " ".join([words[0], *more])
+            expected = wanted if more else first + elsewhere
+            checks.expect(f"{name} on a terminal", wanted.replace("\n", "\r\n"), shown.err)
+            checks.expect(f"{name} elsewhere", (shown.out, expected, shown.status), tuple(said))
 
 
 def check_progress(checks):
@@ -308,6 +327,40 @@ def check(run):
     # the launcher builds the program, so that no progress comes between later checks
     ran([f"{TOP}/rvfence", "place", f"{EXAMPLES}/MP.litmus"], seconds=None)
     checks = Transcripts(run)
-    for part in (check_transcripts, check_examples, check_idioms, check_documents, check_answers, check_why,
-                 check_forbidden, check_pictures, check_objects, check_messages, check_progress):
+    # all of scripts/transcripts/, with the files there
+    shutil.copytree(f"{FOLDER}/files", checks.folder, dirs_exist_ok=True)
+    side_by_side(checks.check_block, [it for path in sorted(glob.glob(f"{FOLDER}/*.txt")) for it in blocks_of(path)])
+    for part in (check_examples, check_idioms, check_documents, check_answers, check_why, check_forbidden,
+                 check_pictures, check_objects, check_messages, check_progress):
         part(checks)
+
+
+def check_launcher(run):
+    """Runs the launcher in a small repository of its own, with a stand-in for `rt` that proves nothing and notes what
+    it is asked for, by the commands of scripts/transcripts/launcher/launcher.txt."""
+    transcripts = Transcripts(run, functions=f"{FOLDER}/launcher/functions.sh", has_program=False)
+    for block in blocks_of(f"{FOLDER}/launcher/launcher.txt"):
+        transcripts.check_block(block)
+
+
+def check_limits(run):
+    """Runs the built program at its limits: each is met, where there must be an answer, and passed by one, where there
+    must be a fault, as scripts/transcripts/limits/limits.txt has it. The tests beside it say why.
+
+    With `--heavy` the runs of heavy.txt come too, which take minutes or gigabytes, and after each large run stand its
+    milliseconds of processor time and its mebibytes at the peak."""
+    transcripts, names, notes = Transcripts(run, seconds=600), ["limits.txt"], written(f"{run.folder}/notes", "")
+    os.symlink(f"{FOLDER}/limits", f"{run.folder}/limits")
+    if run.options.heavy:
+        names.append("heavy.txt")
+        os.unlink(f"{run.folder}/bin/rvfence")
+        parts = {"measure": compiled("measure.c", run.folder), "program": program(), "notes": notes}
+        stand_in = text_of(f"{FOLDER}/limits/rvfence").format(**parts)
+        os.chmod(written(f"{run.folder}/bin/rvfence", stand_in), 0o755)
+    for block in (block for name in names for block in blocks_of(f"{FOLDER}/limits/{name}")):
+        transcripts.check_block(block)
+        for line in text_of(notes).splitlines():
+            nanoseconds, peak, _, words = line.split(" ", 3)
+            if int(nanoseconds) > 20_000_000 or int(peak) > 8_000_000:
+                print(f"{words[:120]}: {int(nanoseconds) / 1e6:.0f} ms, {int(peak) / 2 ** 20:.0f} MiB", flush=True)
+        written(notes, "")

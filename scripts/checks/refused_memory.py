@@ -33,8 +33,7 @@ def refusing(library, command, number=0, **options):
     """What a run says whose request of this number is refused (0 refuses nothing), and how many requests it makes."""
     with tempfile.NamedTemporaryFile() as count:
         settings = {**os.environ, "REFUSE_AT": str(number), "REFUSE_COUNT": count.name, "LD_PRELOAD": library}
-        said = ran(command, env=settings, **options)
-        return said, int(read(count.name) or 0)
+        return ran(command, env=settings, **options), int(read(count.name) or 0)
 
 
 def is_as(said, whole):
@@ -45,22 +44,6 @@ def is_as(said, whole):
     return are_some and alike[0] == alike[1]
 
 
-def is_refused(said, words, whole):
-    """Is this the fault alone, or of `states` below the beginning of what the whole run says of files?"""
-    before = said.err.removesuffix(REFUSED.err)
-    is_begun = words[0] == "states" and "fault F" in before and whole.err.startswith(before)
-    return said == REFUSED or is_begun and said._replace(err=REFUSED.err) == REFUSED
-
-
-def is_left_well(said, words, path):
-    """Has a run that said this left its certificate as it should?"""
-    if os.path.exists(f"{path}.part"):
-        return False
-    if os.path.exists(path):
-        return rvfence("check", *words[1:3], path, cwd=TOP, stdin=read(TEST)).out.startswith("yes\n")
-    return path not in words or said.status not in (0, 1)
-
-
 def refuse(check, library, words, status, is_together):
     """Refuses each request of a command line in turn. With several threads the number of a request, and of all, differs
     from run to run: so each is then refused up to the most that any run has made, and some more."""
@@ -69,10 +52,12 @@ def refuse(check, library, words, status, is_together):
             path = f"{folder}/cert.json"
             own = [word.replace("CERT", path) for word in words]
             said, requests = refusing(library, [program(), *own], number, stdin=test, cwd=TOP)
-            return said, requests, is_left_well(said, own, path)
+            is_well = path not in own or said.status not in (0, 1)          # has it left its certificate so?
+            if os.path.exists(path):
+                is_well = rvfence("check", *own[1:3], path, cwd=TOP, stdin=read(TEST)).out.startswith("yes\n")
+            return said, requests, is_well and not os.path.exists(f"{path}.part")
 
-    name = " ".join(words)
-    runs = [run(0) for _ in range(5 if is_together else 1)]
+    name, runs = " ".join(words), [run(0) for _ in range(5 if is_together else 1)]
     whole, most = runs[-1][0], max(requests for _, requests, _ in runs)
     if whole.status != status or not most:
         check(name, False, f"{most} requests for memory, and status {status} is wanted of {whole}")
@@ -82,11 +67,13 @@ def refuse(check, library, words, status, is_together):
         numbers = range(at + 1, at + 1 + min(64, most + more - at))
         for at, (said, requests, is_well) in zip(numbers, side_by_side(run, numbers)):
             most = max(most, requests) if is_together else most
-            is_fault = is_refused(said, words, whole)
+            # the fault alone, or of `states` below the beginning of what the whole run says of files
+            before = said.err.removesuffix(REFUSED.err)
+            is_begun = words[0] == "states" and "fault F" in before and whole.err.startswith(before)
+            is_fault = said == REFUSED or is_begun and said._replace(err=REFUSED.err) == REFUSED
             faults += is_fault
             wrong = f"{said}{'' if is_well else ', and its certificate is not whole'}"
-            is_right = is_well and (is_fault or is_as(said, whole))
-            check(f"{name}: request {at} of {most} refused", is_right, wrong)
+            check(f"{name}: request {at} of {most} refused", is_well and (is_fault or is_as(said, whole)), wrong)
     print(f"{name}: {at} requests refused, of these {faults} with the fault", flush=True)
 
 
@@ -127,7 +114,7 @@ def try_part(check, library, part):
 
 
 def check(run):
-    library = compiled("checks/refuse.c", run.folder, "-shared", "-fPIC")
+    library = compiled("checks/hinder.c", run.folder, "-shared", "-fPIC")
     for way, number, *words in map(str.split, rows("refused")):
         if way == "most":                       # it ends with status 0, and makes no more requests than these
             said, requests = refusing(library, [program(), *words], cwd=TOP)

@@ -129,12 +129,12 @@ pub record AnswersSolve (solve : Solve) (papers : Papers) (output : Output) : Ty
   pub prices_name : papers.prices.name.now ≡ solve.prices.now
   pub answer : IsSolveText solve papers.test.bytes.items papers.prices.bytes.items output
 
--- the answer to some files and the prices that were read; or no answer, since a file has a fault
+-- the answer to some files and the prices that were read; or no answer, and at most an object, since a file has a fault
 pub data AnswersSites (sites : Sites) (papers : Papers) (output : Output) : Type 0 where
   answered : (tests : Tests) → tests.is_free ≡ sites.free → papers.prices.name.now ≡ sites.prices.now
       → IsSitesSolved sites.json tests papers.prices.bytes.items (string_bytes output.text) output.status
       → AnswersSites sites papers output
-  refused : output.status ≡ Failure → AnswersSites sites papers output
+  refused : output.status ≡ Failure → (sites.json ≡ false → string_bytes output.text ≡ []) → AnswersSites sites papers output
 
 -- with `--write` the mended test, with `--anew` what is found anew
 abbrev pub IsAuditText : (is_mended is_anew : Bool) (test prices text : List ℕ) (status : Status) → Type 0
@@ -186,11 +186,11 @@ pub record AnswersObjects (audit : Audit) (files : List Source) (papers : Papers
 -- Of the only file that the words name, or of several; nothing where a file is mended, or where one is wanted and there
 -- are several. Which files folders and lists stand for no definition says.
 pub data AnswersAudit (audit : Audit) (papers : Papers) (output : Output) : Type 0 where
-  alone : (name : List ℕ) → map string_bytes audit.files.items ≡ name ∷ [] → AnswersOneAudit audit name papers output
+  alone : (name : List ℕ) → audit.json ≡ false → map string_bytes audit.files.items ≡ name ∷ [] → AnswersOneAudit audit name papers output
       → AnswersAudit audit papers output
   objects : {files : List Source} → audit.json ≡ true → AnswersObjects audit files papers output
       → AnswersAudit audit papers output
-  several : {files : List Source} → wants_one audit ≡ false → AnswersBlocks audit files papers output
+  several : {files : List Source} → audit.json ≡ false → wants_one audit ≡ false → AnswersBlocks audit files papers output
       → AnswersAudit audit papers output
   mended : audit.in_place ≡ true → string_bytes output.text ≡ [] → AnswersAudit audit papers output
   too_many : wants_one audit ≡ true → string_bytes output.text ≡ [] → output.status ≡ Failure
@@ -217,7 +217,7 @@ pub data AnswersCheckSites (check : CheckSites) (papers : Papers) (output : Outp
       → IsSitesChecked tests papers.prices.bytes.items papers.evidence.bytes.items lines object output.status
       → string_bytes output.text ≡ in_form check.json lines object
       → AnswersCheckSites check papers output
-  refused : output.status ≡ Failure → AnswersCheckSites check papers output
+  refused : output.status ≡ Failure → (check.json ≡ false → string_bytes output.text ≡ []) → AnswersCheckSites check papers output
 
 -- what is said of the FENCEs at the sites of some files at the prices that were read; or nothing, since a file has a
 -- fault
@@ -225,7 +225,7 @@ pub data AnswersAuditSites (audit : AuditSites) (papers : Papers) (output : Outp
   audited : (files : List File) → papers.prices.name.now ≡ audit.prices.now
       → IsSitesAudited audit.json files papers.prices.bytes.items (string_bytes output.text) output.status
       → AnswersAuditSites audit papers output
-  refused : output.status ≡ Failure → AnswersAuditSites audit papers output
+  refused : output.status ≡ Failure → (audit.json ≡ false → string_bytes output.text ≡ []) → AnswersAuditSites audit papers output
 
 -- The text, but for what is told below it, and the status are those of the same lines. Each says what is true of some
 -- bytes, or of a file that wasn't read; what is told is told of these bytes.

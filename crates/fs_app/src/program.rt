@@ -60,6 +60,8 @@ pub(crate) struct Voice {
     pub notes: bool,
     /// Whether a message explains a fault.
     pub explains: bool,
+    /// Whether is said which test needs which sites.
+    pub tells_needs: bool,
     /// Whether a line says how far a search is.
     shows_progress: bool,
 }
@@ -82,6 +84,7 @@ impl Voice {
         Voice {
             notes,
             explains: notes && (request.verbose || is_terminal || judges),
+            tells_needs: notes && request.verbose,
             shows_progress: notes && is_terminal,
         }
     }

@@ -1,6 +1,6 @@
 //! What `solve --sites` answers of its files, and what `check --sites` says of a certificate of such an answer.
 
-ghost use Rattle.std.specs.Prelude.{◌≡◌, IfOk, string_bytes};
+ghost use Rattle.std.specs.Prelude.{◌≡◌, [], false, IfOk, string_bytes};
 ghost use Rattle.fs_app_io.specs.declared.status.Status.TheVariants.{Failure as Failed};
 ghost use Rattle.fs_app_sites.specs.Solved.{IsSolved};
 ghost use Rattle.fs_app_sites.specs.declared.content.Tests.{Tests as Questioned};
@@ -19,6 +19,7 @@ use fs_app_sites::{
     read_all_copies, run_sites,
 };
 use fs_app_sites_check::{run_sites_certified, run_sites_check};
+use fs_app_sites_needs::needs_text;
 use fs_app_test::{Note, test_file, test_objects};
 use fs_kinds::{Fault, List};
 use fs_litmus::read_test;
@@ -53,7 +54,14 @@ pub(crate) fn answer_sites<'a, R: Files + Input + Eprint + AllocGlobal + Threads
     check_prices(rt.alloc(), &papers.prices.bytes)?;
     let sources = sources(rt, &sites.files)?;
     let mut blamed = Papers::new(rt.alloc());
-    match solved(rt, sites, &sources, &papers.prices.bytes, &mut blamed) {
+    match solved(
+        rt,
+        sites,
+        &sources,
+        &papers.prices.bytes,
+        voice,
+        &mut blamed,
+    ) {
         Ok(solved) => Ok(noted(rt, sites.free, voice, solved)),
         Err(fault) => failed(rt, sites.json, fault, voice, &blamed),
     }
@@ -75,11 +83,12 @@ fn noted<R: Files + Eprint + AllocGlobal>(
 }
 
 /// What is answered. Where there is a fault the file that has it is left in `blamed`.
-fn solved<'b, R: Files + Input + AllocGlobal + Threads + Sync>(
+fn solved<'b, R: Files + Input + Eprint + AllocGlobal + Threads + Sync>(
     rt: &R,
     sites: &Sites<'_>,
     sources: &'b [Source],
     prices: &[u8],
+    voice: Voice,
     blamed: &mut Papers<'b>,
 ) -> Result<Solved, Fault>
     ensures { IfOk result (λ solved. (tests : Questioned) × (tests.is_free ≡ sites.now.free)
@@ -87,11 +96,35 @@ fn solved<'b, R: Files + Input + AllocGlobal + Threads + Sync>(
 {
     let tests = read_tests(rt, sources, sites.free, blamed)?;
     match answered(rt, sites, &tests, prices) {
-        Ok(solved) => Ok(solved),
+        Ok(solved) => {
+            note_needs(rt, sites, voice, &tests, prices);
+            Ok(solved)
+        }
         Err(fault) => {
             blame(rt.alloc(), sources, &tests, prices, fault, blamed)?;
             Err(fault)
         }
+    }
+}
+
+/// Says which test needs which sites, where that is asked for and found.
+fn note_needs<R: Files + Eprint + AllocGlobal>(
+    rt: &R,
+    sites: &Sites<'_>,
+    voice: Voice,
+    tests: &Tests,
+    prices: &[u8],
+) {
+    if !voice.tells_needs {
+        return;
+    }
+    let limits = Limits {
+        workers: 1,
+        rounds: MOST_ROUNDS,
+        steps: sites.nodes.clamp(1, MOST_NODES) as usize,
+    };
+    if let Ok(text) = needs_text(rt.alloc(), tests, prices, limits) {
+        tell(rt, &text.as_str());
     }
 }
 
@@ -243,17 +276,19 @@ pub(crate) fn failed<R: Files + Eprint + AllocGlobal>(
     voice: Voice,
     blamed: &Papers<'_>,
 ) -> Result<Output, Fault>
-    ensures { IfOk result (λ output. output.status ≡ Failed) }
+    ensures status { IfOk result (λ output. output.status ≡ Failed) }
+    ensures text { IfOk result (λ output. is_json ≡ false → string_bytes output.text ≡ []) }
 {
     if fault == Fault::Memory {
         return Err(fault);
     }
     report(rt, &failure_of_file(rt.alloc(), fault, voice, blamed));
     let mut output = refused(rt.alloc());
-    if is_json {
-        if let Some(object) = object_of(rt.alloc(), fault, blamed)? {
-            output.text.push_str(object.as_str())?;
-        }
+    if !is_json {
+        return Ok(output);
+    }
+    if let Some(object) = object_of(rt.alloc(), fault, blamed)? {
+        output.text.push_str(object.as_str())?;
     }
     Ok(output)
 }

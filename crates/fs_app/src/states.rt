@@ -2,9 +2,9 @@
 use crate::failure::Failure;
 use crate::program::{Voice, failure_of, report};
 use fs_app_command_line::States;
-use fs_app_error_messages::explain_test;
 use fs_app_files::{Papers, fault_object};
 use fs_app_io::{Output, Source, Status, sources};
+use fs_app_more_faults::explain_all_of_test;
 use fs_app_states::{Shown, run_states};
 use fs_app_states_log::{Compared, Log, LogError, MOST_BYTES, compare, left_over, read_log};
 use fs_kinds::Fault;
@@ -106,7 +106,7 @@ fn failure_of_file(alloc: Global, fault: Fault, voice: Voice, papers: &Papers<'_
     if !matches!(fault, Fault::Syntax { .. }) || !voice.explains {
         return failure_of(alloc, fault, voice, papers);
     }
-    match explain_test(alloc, papers.test.name, &papers.test.bytes).unwrap_or(None) {
+    match explain_all_of_test(alloc, papers.test.name, &papers.test.bytes).unwrap_or(None) {
         Some(message) => Failure::Told(fault, message),
         None => Failure::NoAnswer(fault),
     }

@@ -1,7 +1,6 @@
 -- What `audit` finds as JSON, with the keys in the order of their bytes.
 use Rattle.std.specs.Prelude.{ℕ, Option, None, Some, List, ◌∷◌, [], codes, map, if◌then◌else◌}
 use Rattle.serde_json.specs.Data.{Data, null, object, string}
-use Rattle.fs_instr.specs.declared.instr.Instr.{Instr}
 use Rattle.fs_kinds.specs.declared.kind.Kind.{Kind}
 use Rattle.fs_kinds.specs.declared.placement.Entry.{Entry}
 use Rattle.fs_kinds.specs.Kind.{word}
@@ -24,13 +23,13 @@ use Rattle.fs_app_audit_json.specs.declared.rows.Row.{Row}
 -- ---- a line
 
 -- the kind of fence that is advised there: of a FENCE that stays its own, or none
-abbrev pub advised_kind : Instr → Advice → Option Kind
-advised_kind i Needed = memory_kind i
-advised_kind i Unpriced = memory_kind i
-advised_kind i (Enough kind) = Some kind
-advised_kind i (Instead kind) = Some kind
-advised_kind i (Missing kind) = Some kind
-advised_kind i _ = None
+abbrev pub advised_kind : (own : Option Kind) → Advice → Option Kind
+advised_kind own Needed = own
+advised_kind own Unpriced = own
+advised_kind own (Enough kind) = Some kind
+advised_kind own (Instead kind) = Some kind
+advised_kind own (Missing kind) = Some kind
+advised_kind own _ = None
 
 abbrev pub kind_or_null : Option Kind → Data
 kind_or_null None = null
@@ -38,7 +37,7 @@ kind_or_null (Some kind) = string (word kind)
 
 abbrev pub row_value : Row → Data
 row_value row = object (members_of (
-    (codes "advised", kind_or_null (advised_kind row.instr row.advice))
+    (codes "advised", kind_or_null (advised_kind (memory_kind row.instr) row.advice))
     ∷ (codes "line", number row.line)
     ∷ (codes "place", string (place_name row.place.hart row.place.at))
     ∷ (codes "says", string (advice_text row.instr row.advice))

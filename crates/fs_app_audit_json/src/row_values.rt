@@ -6,17 +6,17 @@ ghost use Rattle.fs_app_audit_json.specs.Objects.{advised_kind, kind_or_null, ro
 
 use crate::rows::Row;
 use fs_app_audit::{Advice, advice_text, fence_letters, memory_kind};
-use fs_instr::Instr;
 use fs_kinds::Kind;
 use serde_json::{Value, json};
 use std::alloc::{AllocError, Global};
 
-/// The kind of fence that is advised there: of a FENCE that stays its own, or none.
-fn advised_kind(instr: Instr, advice: Advice) -> Option<Kind>
-    ensures { result ≡ advised_kind instr advice }
+/// The kind of fence that is advised where this one stands, or where none does: of a FENCE that stays its own, or none.
+/// In constant time.
+pub fn advised_kind(own: Option<Kind>, advice: Advice) -> Option<Kind>
+    ensures { result ≡ advised_kind own advice }
 {
     match advice {
-        Advice::Needed | Advice::Unpriced => memory_kind(instr),
+        Advice::Needed | Advice::Unpriced => own,
         Advice::Enough(kind) => Some(kind),
         Advice::Instead(kind) => Some(kind),
         Advice::Missing(kind) => Some(kind),
@@ -24,8 +24,8 @@ fn advised_kind(instr: Instr, advice: Advice) -> Option<Kind>
     }
 }
 
-/// The word of the kind, or null.
-fn kind_or_null(alloc: Global, kind: Option<Kind>) -> Result<Value, AllocError>
+/// The word of the kind, or null. Fails only for want of memory.
+pub fn kind_or_null(alloc: Global, kind: Option<Kind>) -> Result<Value, AllocError>
     ensures { IfOk result (λ value. view value ≡ kind_or_null kind) }
 {
     match kind {
@@ -38,7 +38,7 @@ fn kind_or_null(alloc: Global, kind: Option<Kind>) -> Result<Value, AllocError>
 fn row_value(alloc: Global, row: &Row) -> Result<Value, AllocError>
     ensures { IfOk result (λ value. view value ≡ row_value row.now) }
 {
-    let advised = kind_or_null(alloc, advised_kind(row.instr, row.advice))?;
+    let advised = kind_or_null(alloc, advised_kind(memory_kind(row.instr), row.advice))?;
     let place = format!(in alloc; "{}", row.place)?;
     let says = advice_text(alloc, row.instr, row.advice)?;
     let written = fence_letters(alloc, row.instr)?;

@@ -217,7 +217,8 @@ Elsewhere no fence is placed; with --free each place before an access is a site 
 where no label names one, as P0:3 or, of several files, FILE:P0:3. Below `none` stands first
 the file whose outcome is shown, even with rw,rw at every site. --json has sites in place of
 fences, and the file. --workers judges the tests side by side. Weights in PRICES go by names
-of sites, as {\"lock\":3}. There is no --write, --why or --dot.
+of sites, as {\"lock\":3}. With -v a note says of each test which sites it needs. There is no
+--write, --why or --dot.
 
 PRICES offers kinds, each for 1 to 1000000, and rw,rw must be one of them, as in
 {\"w,w\":2,\"rw,rw\":10}. Slots may have weights that multiply the price.

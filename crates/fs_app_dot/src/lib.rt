@@ -8,8 +8,6 @@ mod kinds;
 mod order;
 mod picture;
 mod possible;
-#[cfg(test)]
-mod tests;
 mod without;
 
 pub use certified::certified_pictures;

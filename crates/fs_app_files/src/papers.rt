@@ -3,10 +3,11 @@
 ghost use Rattle.std.specs.Prelude.{◌≡◌, IfOk, OnOk};
 
 use fs_app_error_messages::{
-    Located, explain, explain_fences, explain_json, explain_test, explain_unread, locate,
-    locate_fences, locate_json, locate_test,
+    Located, explain_fences, explain_json, explain_unread, locate, locate_fences, locate_json,
+    locate_test,
 };
 use fs_app_io::{INPUT_LIMIT, Missing, Source, Unread, read_file, read_input};
+use fs_app_more_faults::{explain_all, explain_all_of_test};
 use fs_app_test::Note;
 use fs_kinds::Fault;
 use std::alloc::{AllocError, Global};
@@ -121,8 +122,8 @@ impl<'a> Papers<'a> {
         }
     }
 
-    /// The message of the fault that ended the run. None where there is no more to say than its line, or no memory for
-    /// it.
+    /// The message of the fault that ended the run, and those of further faults of the test. None where there is no
+    /// more to say than its line, or no memory for it.
     pub fn message(&self, alloc: Global, fault: Fault) -> Option<String> {
         self.explained(alloc, fault).unwrap_or(None)
     }
@@ -141,7 +142,7 @@ impl<'a> Papers<'a> {
             }
             Fault::ReadFault => explained_unread(alloc, self.unread),
             Fault::Memory | Fault::WriteFault | Fault::Unmatched | Fault::StrangePass => Ok(None),
-            _ => Ok(Some(explain(alloc, self.test.name, &self.test.bytes, fault)?)),
+            _ => Ok(Some(explain_all(alloc, self.test.name, &self.test.bytes, fault)?)),
         }
     }
 }
@@ -258,15 +259,15 @@ fn unread_line(alloc: Global, name: &str, why: Missing) -> Result<String, AllocE
     explain_unread(alloc, name, why.as_str())
 }
 
-/// The message of a file beside others that isn't a test, or wasn't read. None where it is one, or there is no memory
-/// for the message. A file that is one is read once more where it is judged.
+/// The messages of a file beside others that isn't a test, or wasn't read. None where it is one, or there is no memory
+/// for them. A file that is one is read once more where it is judged.
 pub fn message_of_file(
     alloc: Global,
     name: &str,
     file: &Result<Vec<u8>, Missing>,
 ) -> Option<String> {
     match file {
-        Ok(bytes) => explain_test(alloc, name, bytes).unwrap_or(None),
+        Ok(bytes) => explain_all_of_test(alloc, name, bytes).unwrap_or(None),
         Err(Missing::Unread(Unread::NoMemory)) => None,
         Err(why) => unread_line(alloc, name, *why).ok(),
     }

@@ -8,7 +8,7 @@ use Rattle.fs_app_sites.specs.declared.content.Tests.{Tests}
 use Rattle.fs_app_sites.specs.SitePrices.{AreSitePrices, IsSitePricesFault}
 use Rattle.fs_app_sites.specs.Sites.{Content, AreContents, IsFilesFault, most_sites, names_of, question_of}
 
--- the files hold these tests with copies of sites that have these names, the bytes hold prices, and they ask this question
+-- the files hold tests with copies of sites that have these names, the bytes hold prices, and they ask this question
 pub record IsAsked (tests : Tests) (prices : List ℕ) (q : Question) (names : List (List ℕ)) : Type 0 where
   pub contents : List Content
   pub table : Data

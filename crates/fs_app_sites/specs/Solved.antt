@@ -11,7 +11,7 @@ use Rattle.fs_app_sites.specs.Printed.{answer_text, status_of}
 use Rattle.fs_app_sites.specs.SitePrices.{AreSitePrices, IsSitePricesFault}
 use Rattle.fs_app_sites.specs.Sites.{Content, AreContents, IsFilesFault, names_of, question_of}
 
--- the files hold these tests with copies of sites, the bytes hold prices, and the answer to their question is printed
+-- the files hold tests with copies of sites, the bytes hold prices, and the answer to their question is printed
 pub record IsSolved (is_json : Bool) (tests : Tests) (prices text : List ℕ) (status : Status) : Type 0 where
   pub contents : List Content
   pub table : Data

@@ -28,10 +28,10 @@ pub struct Asked {
 
 /// The question that tests, in this order, and a file of prices ask. The files are bytes as they were read.
 ///
-/// The first fault in this order: `BadPrices` and `NoTop`; of each file in turn those of a test by number and then line,
-/// and `BadLabel` of a second site label at a place; `NodeLimit` where there are more than 65,536 sites. `Memory` may
-/// come in place of any answer. It costs what reading costs, each copy of a site is looked for in the names of all, and
-/// each slot that is a site of its own in the copies of its test.
+/// The first fault in this order: `BadPrices` and `NoTop`; of each file in turn those of a test by number and then
+/// line, and `BadLabel` of a second site label at a place; `NodeLimit` where there are more than 65,536 sites. `Memory`
+/// may come in place of any answer. It costs what reading costs, each copy of a site is looked for in the names of all,
+/// and each slot that is a site of its own in the copies of its test.
 pub fn read_question(alloc: Global, tests: &Tests, prices: &[u8]) -> Result<Asked, Fault>
     ensures ok { IfOk result (λ asked. IsAsked tests.now prices.now asked.question
         (map string_bytes asked.names)) }

@@ -27,8 +27,8 @@ pub struct File {
 }
 
 /// The tests of a library, and whether each slot at which no label of a site stands is a site of its own. The name of
-/// such a site is the slot's where one file is given, as `P0:3`, and else it stands behind the file's name and `:`. So a
-/// file that is given twice has each of them once, with two copies. A label's site has no `:` in its name.
+/// such a site is the slot's where one file is given, as `P0:3`, and else it stands behind the file's name and `:`.
+/// So a file that is given twice has each of them once, with two copies. A label's site has no `:` in its name.
 #[derive(Drop)]
 pub struct Tests {
     pub files: List<File>,

@@ -88,9 +88,9 @@ pub fn check_prices(alloc: Global, bytes: &[u8]) -> Result<(), Fault>
 }
 
 /// Reads prices for sites from the bytes of a JSON object: from kinds to whole numbers from 1 to 1,000,000, and from
-/// `weights`, which may be missing, to an object from names to whole numbers from 0 to 1,000. F10 where the bytes aren't
-/// such an object, F11 where they are and `rw,rw` has no price, F19. Where a key comes twice, its last value counts. A
-/// name of no site is no fault.
+/// `weights`, which may be missing, to an object from names to whole numbers from 0 to 1,000. F10 where the bytes
+/// aren't such an object, F11 where they are and `rw,rw` has no price, F19. Where a key comes twice, its last value
+/// counts. A name of no site is no fault.
 pub fn read_site_prices(alloc: Global, bytes: &[u8]) -> Result<SitePrices, Fault>
     ensures ok { IfOk result (λ prices. AreSitePrices bytes.now (view prices)) }
     ensures err { IfErr result (λ f. f ≢ Memory → IsSitePricesFault bytes.now f) }

@@ -68,8 +68,8 @@ fn offer_list(
     Ok(offers)
 }
 
-/// What may stand at the sites of these names, in the order of their keys, and what it costs there, once for all copies.
-/// Fails only for want of memory.
+/// What may stand at the sites of these names, in the order of their keys, and what it costs there, once for all
+/// copies. Fails only for want of memory.
 pub fn offers_of(alloc: Global, prices: &SitePrices, names: &[String]) -> Result<Offers, AllocError>
     requires { length names.now ≤ most_sites }
     ensures { IfOk result (λ offers. offers ≡ offers_of (view prices.now) (map string_bytes names.now)) }

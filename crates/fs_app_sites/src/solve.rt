@@ -29,8 +29,8 @@ pub struct Solved {
 /// bytes as they were read. It is searched by up to so many workers, in threads; the answer is that of one. No contract
 /// says how long the search takes.
 ///
-/// The first fault in this order: `BadPrices` and `NoTop`; of each file in turn those of a test by number and then line,
-/// and `BadLabel` of a second site label at a place; `NodeLimit` where there are more than 65,536 sites;
+/// The first fault in this order: `BadPrices` and `NoTop`; of each file in turn those of a test by number and then
+/// line, and `BadLabel` of a second site label at a place; `NodeLimit` where there are more than 65,536 sites;
 /// `TooManyTraces`, `Astray` and `TooManyCandidates` of some test, or `NodeLimit` where the search takes more rounds or
 /// steps than so many. `Memory` may come in place of any answer.
 pub fn run_sites<R: Threads + Sync>(

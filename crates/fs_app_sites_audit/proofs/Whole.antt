@@ -1,27 +1,24 @@
 -- No object of an audit has a float.
-use Rattle.std.proofs.Common.{◌≡◌, ℕ, Option, None, Some, false, List, [], ◌∷◌, map, refl}
+use Rattle.std.proofs.Common.{◌≡◌, ℕ, false, List, [], ◌∷◌, map, refl}
 use Rattle.serde_json.specs.Written.{has_float, items_have_float}
 use Rattle.fs_cert_evidence.specs.Texts.{items_of}
 use Rattle.fs_report.proofs.Depths.{no_float}
 use Rattle.fs_sites.specs.declared.answer.Answer.{Answer}
 use Rattle.fs_sites.specs.declared.answer.Answer.TheVariants as answer
-use Rattle.fs_app_test.specs.Report.{number_or_null}
+use Rattle.fs_app_audit_json.specs.Objects.{advised_kind}
+use Rattle.fs_app_audit_json.proofs.Whole.{kind_whole, number_whole}
 use Rattle.fs_app_sites.specs.declared.content.File.{File}
 use Rattle.fs_app_sites_audit.specs.Objects.{audit_value, line_value, lines_value, row_value, value_by}
 use Rattle.fs_app_sites_audit.specs.Printed.{Findings, found_lines}
 use Rattle.fs_app_sites_audit.specs.declared.lines.Line.{Line}
 use Rattle.fs_app_sites_audit.specs.declared.marks.Row.{Row}
 
-number_whole : (n : Option ℕ) → has_float (number_or_null n) ≡ false
-number_whole None = refl
-number_whole (Some n) = refl
-
 rows_whole : (files : List File) (rows : List Row) → items_have_float (items_of (map (row_value files) rows)) ≡ false
 rows_whole files [] = refl
 rows_whole files (row ∷ rows) = rw (rows_whole files rows) refl
 
 line_whole : (files : List File) (names : List (List ℕ)) (l : Line) → has_float (line_value files names l) ≡ false
-line_whole files names l = rw (rows_whole files l.rows) refl
+line_whole files names l = rw (kind_whole (advised_kind l.fence l.advice), rows_whole files l.rows) refl
 
 lines_whole : (files : List File) (names : List (List ℕ)) (lines : List Line)
     → items_have_float (items_of (map (line_value files names) lines)) ≡ false

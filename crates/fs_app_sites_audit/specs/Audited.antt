@@ -18,7 +18,7 @@ use Rattle.fs_app_sites.specs.Sites.{offers_of}
 use Rattle.fs_app_sites_audit.specs.Asked.{asked_of, names_in}
 use Rattle.fs_app_sites_audit.specs.Copies.{AreHeld, Held, IsFilesFault}
 use Rattle.fs_app_sites_audit.specs.Files.{IsFirstIn}
-use Rattle.fs_app_sites_audit.specs.Marks.{marks_of, written_cost}
+use Rattle.fs_app_sites_audit.specs.Marks.{all_cost, marks_of, written_cost}
 use Rattle.fs_app_sites_audit.specs.Objects.{shown_text}
 use Rattle.fs_app_sites_audit.specs.Printed.{Findings, status_of}
 
@@ -48,6 +48,7 @@ pub record AreFound (files : List File) (prices : Data) (held : List Held) (f : 
   pub names : f.names ≡ names_in held
   pub marks : f.marks ≡ marks_of (names_in held) held
   pub written : f.written ≡ written_cost (marks_of (names_in held) held) (offers_of prices (names_in held))
+  pub all_cost : f.all_cost ≡ all_cost (marks_of (names_in held) held) (offers_of prices (names_in held))
   pub kinds : List Kind
   pub said : AreSaid files kinds
   pub kind : f.kind ≡ together kinds

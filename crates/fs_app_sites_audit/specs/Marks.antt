@@ -1,5 +1,6 @@
 -- The copies of all sites as they are written, and what they cost.
-use Rattle.std.specs.Prelude.{ℕ, ◌+◌, ◌==◌, Bool, true, false, Option, None, Some, option_and_then, unwrap_or, List, [], ◌∷◌, if◌then◌else◌}
+use Rattle.std.specs.Prelude.{ℕ, ◌+◌, ◌==◌, Bool, true, false, not, ◌&&◌, ◌||◌, Option, None, Some, is_none, option_and_then, unwrap_or}
+use Rattle.std.specs.Prelude.{List, [], ◌∷◌, if◌then◌else◌}
 use Rattle.std.specs.List.{enumerate_from, find, flat_map, list_all}
 use Rattle.std.specs.Option.{option_or}
 use Rattle.fs_kinds.specs.declared.kind.Kind.{Kind}
@@ -64,3 +65,16 @@ cost_from marks site (o ∷ offers) = fence_cost o (own_fence marks site) + cost
 -- where copies agree
 abbrev pub written_cost : List Mark → Offers → Option ℕ
 written_cost marks offers = if agree marks then Some (cost_from marks 0 offers) else None
+
+-- ---- does each of them cost something?
+
+abbrev pub costs_there : Offer → Option Kind → Bool
+costs_there o fence = is_none fence || not (fence_cost o fence == 0)
+
+-- the FENCEs of the sites of which the first has this number
+abbrev pub all_cost_from : List Mark → (site : ℕ) → Offers → Bool
+all_cost_from marks site [] = true
+all_cost_from marks site (o ∷ offers) = costs_there o (own_fence marks site) && all_cost_from marks (site + 1) offers
+
+abbrev pub all_cost : List Mark → Offers → Bool
+all_cost marks = all_cost_from marks 0

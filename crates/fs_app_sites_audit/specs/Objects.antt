@@ -11,6 +11,7 @@ use Rattle.fs_sites.specs.declared.answer.Answer.TheVariants as answer
 use Rattle.fs_app_test.specs.declared.said.Kind.{Kind}
 use Rattle.fs_app_test.specs.Report.{kind_text, number_or_null}
 use Rattle.fs_app_audit.specs.Report.{advice_text}
+use Rattle.fs_app_audit_json.specs.Objects.{advised_kind, kind_or_null}
 use Rattle.fs_app_sites.specs.declared.content.File.{File}
 use Rattle.fs_app_sites.specs.Printed.{name_at}
 use Rattle.fs_app_sites_audit.specs.declared.lines.Line.{Line}
@@ -25,7 +26,8 @@ row_value files row = object (members_of (
 
 abbrev pub line_value : List File → (names : List (List ℕ)) → Line → Data
 line_value files names l = object (members_of (
-    (codes "places", array_of (map (row_value files) l.rows))
+    (codes "advised", kind_or_null (advised_kind l.fence l.advice))
+    ∷ (codes "places", array_of (map (row_value files) l.rows))
     ∷ (codes "says", string (advice_text FenceTso l.advice))
     ∷ (codes "site", string (slice_index_or names l.site []))
     ∷ (codes "written", string (fence_text l.fence)) ∷ []))

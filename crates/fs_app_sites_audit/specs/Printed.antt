@@ -1,5 +1,5 @@
 -- What `audit --sites` prints, and its exit status.
-use Rattle.std.specs.Prelude.{ℕ, Option, None, Some, List, [], ◌++◌, codes, fold, length, max, if◌then◌else◌}
+use Rattle.std.specs.Prelude.{ℕ, Bool, ◌&&◌, Option, None, Some, List, [], ◌++◌, codes, fold, length, max, if◌then◌else◌}
 use Rattle.std.specs.Fmt.{decimal}
 use Rattle.std.specs.List.{flat_map, slice_index_or}
 use Rattle.fs_instr.specs.declared.instr.Instr.TheVariants.{FenceTso}
@@ -32,6 +32,8 @@ pub record Findings : Type 0 where
   pub marks : List Mark
   -- what they cost, where copies agree
   pub written : Option ℕ
+  -- each of their FENCEs costs something
+  pub all_cost : Bool
   -- what is said of all files together as they are written
   pub kind : Kind
   -- the answer to the question without the copies' FENCEs
@@ -77,7 +79,7 @@ line_text files names l =
 
 -- the lines of the sites; none where no fences rule the outcomes out
 abbrev pub answer_lines : Findings → Answer → List Line
-answer_lines f (answer.Fenced p cost) = lines_of (length f.names) f.marks (advised (is_kept f.kind f.written cost) f.marks p)
+answer_lines f (answer.Fenced p cost) = lines_of (length f.names) f.marks (advised (f.all_cost && is_kept f.kind f.written cost) f.marks p)
 answer_lines f (answer.None number w) = []
 
 abbrev pub found_lines : Findings → List Line

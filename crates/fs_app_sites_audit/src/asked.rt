@@ -8,9 +8,9 @@ ghost use Rattle.fs_sites.specs.Questions.{IsQuestion};
 ghost use Rattle.fs_app_sites.specs.SitePrices.{price_of};
 ghost use Rattle.fs_app_sites.specs.Sites.{IsSound, most_sites, offers_of, part_of, question_of};
 ghost use Rattle.fs_app_sites_audit.specs.Asked.{asked_of, names_in};
-ghost use Rattle.fs_app_sites_audit.specs.Marks.{marks_of, written_cost};
+ghost use Rattle.fs_app_sites_audit.specs.Marks.{all_cost, marks_of, written_cost};
 
-use crate::cost::written_cost;
+use crate::cost::{all_cost, written_cost};
 use crate::held::Held;
 use crate::marks::{Mark, marks_of};
 use fs_app_sites::{MOST_SITES, SitePrices, add_copies, offers_of, places_of};
@@ -27,6 +27,7 @@ pub(crate) struct Asked {
     pub names: List<String>,
     pub marks: List<Mark>,
     pub written: Option<u64>,
+    pub all_cost: bool,
 }
 
 /// The names of the sites of all files, in the order in which they first stand.
@@ -96,15 +97,20 @@ fn asked_by(
     ensures written { IfOk result (λ asked. asked.written
         ≡ written_cost (marks_of (map string_bytes names.items) held.now)
         (offers_of (view prices.now) (map string_bytes names.items))) }
+    ensures all_cost { IfOk result (λ asked. asked.all_cost
+        ≡ all_cost (marks_of (map string_bytes names.items) held.now)
+        (offers_of (view prices.now) (map string_bytes names.items))) }
 {
     let question = question_of(alloc, held, &names, prices)?;
     let marks = marks_of(alloc, &names, held)?;
     let written = written_cost(&marks, question.offers.as_slice());
+    let all_cost = all_cost(&marks, question.offers.as_slice());
     Ok(Asked {
         question,
         names: List::new(names),
         marks: List::new(marks),
         written,
+        all_cost,
     })
 }
 
@@ -118,6 +124,8 @@ pub(crate) fn asked_of(alloc: Global, held: &[Held], prices: &SitePrices) -> Res
     ensures marks { IfOk result (λ asked. asked.marks ≡ marks_of (names_in held.now) held.now) }
     ensures written { IfOk result (λ asked. asked.written
         ≡ written_cost (marks_of (names_in held.now) held.now) (offers_of (view prices.now) (names_in held.now))) }
+    ensures all_cost { IfOk result (λ asked. asked.all_cost
+        ≡ all_cost (marks_of (names_in held.now) held.now) (offers_of (view prices.now) (names_in held.now))) }
     ensures err { IfErr result (λ f. f ≢ Memory → (f ≡ NodeLimit) × (most_sites < length (names_in held.now))) }
 {
     let names = names_in(alloc, held)?;

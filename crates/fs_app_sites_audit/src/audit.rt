@@ -25,7 +25,7 @@ use std::alloc::Global;
 /// that orders memory and stands right behind the label of a site is that copy's; all others are the client's, and stay.
 /// In the tests in which the copies' FENCEs order no memory, the first of the cheapest fences of sites are found that rule
 /// each outcome out. They are advised, unless the copies of each site agree, each outcome is forbidden as it is written,
-/// and what is written costs no more; then that is.
+/// each FENCE costs something, and all together cost no more; then what is written is.
 ///
 /// A first line says whether an outcome is possible as the tests are written, what the copies' FENCEs cost, once for each
 /// site, or that copies differ, and what the fences cost that were found. A FENCE of a kind without a price costs what
@@ -85,6 +85,7 @@ fn findings_of(asked: Asked, kind: Kind, found: Answer) -> Findings
       names = map string_bytes asked.names;
       marks = asked.marks;
       written = asked.written;
+      all_cost = asked.all_cost;
       kind = kind;
       found = found;
     } }
@@ -93,6 +94,7 @@ fn findings_of(asked: Asked, kind: Kind, found: Answer) -> Findings
         names: asked.names,
         marks: asked.marks,
         written: asked.written,
+        all_cost: asked.all_cost,
         kind,
         found,
     }

@@ -3,7 +3,8 @@
 ghost use Rattle.std.specs.Prelude.{◌≡◌, ◌≤◌, length};
 ghost use Rattle.fs_board_offers.specs.Breaks.{least_of};
 ghost use Rattle.fs_app_sites.specs.Sites.{most_sites};
-ghost use Rattle.fs_app_sites_audit.specs.Marks.{cost_from, fence_cost, price_above, written_cost};
+ghost use Rattle.fs_app_sites_audit.specs.Marks.{all_cost, all_cost_from, cost_from, costs_there, fence_cost};
+ghost use Rattle.fs_app_sites_audit.specs.Marks.{price_above, written_cost};
 
 use crate::marks::{Mark, agree, own_fence};
 use fs_board_offers::{Offer, lesser};
@@ -68,4 +69,24 @@ pub(crate) fn written_cost(marks: &[Mark], offers: &[Offer]) -> Option<u64>
     } else {
         None
     }
+}
+
+/// Is there no FENCE, or does it cost something at the site?
+fn costs_there(offer: &Offer, fence: Option<Kind>) -> bool
+    ensures { result ≡ costs_there offer.now fence }
+{
+    fence.is_none() || fence_cost(offer, fence) != 0
+}
+
+/// Does each FENCE that the first copy of a site has cost something? Where one doesn't, to cost no more says nothing of
+/// whether it is needed. Each copy is looked at for each site.
+pub(crate) fn all_cost(marks: &[Mark], offers: &[Offer]) -> bool
+    ensures { result ≡ all_cost marks.now offers.now }
+{
+    for (site, offer) in offers.iter().enumerate() {
+        if !costs_there(offer, own_fence(marks, site)) {
+            return false;
+        }
+    }
+    true
 }

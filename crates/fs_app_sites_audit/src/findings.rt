@@ -20,6 +20,8 @@ pub(crate) struct Findings {
     pub marks: List<Mark>,
     /// What they cost, where copies agree.
     pub written: Option<u64>,
+    /// Each of their FENCEs costs something.
+    pub all_cost: bool,
     /// What is said of all files together as they are written.
     pub kind: Kind,
     /// The answer to the question without the copies' FENCEs.
@@ -36,6 +38,7 @@ impl Model for Findings {
       names = map string_bytes f.names;
       marks = f.marks;
       written = f.written;
+      all_cost = f.all_cost;
       kind = f.kind;
       found = f.found;
     } };
@@ -48,7 +51,7 @@ pub(crate) fn found_lines(alloc: Global, findings: &Findings) -> Result<Vec<Line
     let marks = findings.marks.as_slice();
     match &findings.found {
         Answer::Fenced { placement, cost } => {
-            let kept = is_kept(findings.kind, findings.written, *cost);
+            let kept = findings.all_cost && is_kept(findings.kind, findings.written, *cost);
             lines_of(
                 alloc,
                 findings.names.len(),

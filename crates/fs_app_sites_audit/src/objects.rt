@@ -13,6 +13,7 @@ use crate::findings::Findings;
 use crate::lines::Line;
 use crate::marks::Row;
 use crate::print::{fence_text, file_name, said_text, site_name};
+use fs_app_audit_json::{advised_kind, kind_or_null};
 use fs_app_sites::File;
 use fs_app_test::{Kind as Verdict, kind_text};
 use fs_cert_evidence::Witness;
@@ -60,9 +61,11 @@ fn line_value(
 ) -> Result<Value, AllocError>
     ensures { IfOk result (λ value. view value ≡ line_value files.now (map string_bytes names.now) line.now) }
 {
+    let advised = kind_or_null(alloc, advised_kind(line.fence, line.advice))?;
     let advice = said_text(alloc, line.advice)?;
     let places = rows_value(alloc, files, line.rows.as_slice())?;
     json!(in alloc; {
+        "advised": advised,
         "places": places,
         "says": advice.as_str(),
         "site": site_name(names, line.site),

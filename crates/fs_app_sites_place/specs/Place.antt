@@ -60,7 +60,8 @@ pub record IsPlaceAsked (is_free : Bool) (test : List ℕ) (prices : Option (Lis
 abbrev pub fenced_at : Test → List Place → List Entry → Test
 fenced_at t places kinds = fenced t (image places kinds)
 
--- the words put these fences at sites, each of a kind that is offered there; and the text is that test in print
+-- the words put these fences at sites, each of a kind that is offered there; no hart has too many instructions with
+-- them; and the text is that test in print
 pub record IsSitesText (is_free : Bool) (test : List ℕ) (prices : Option (List ℕ)) (words : List (List ℕ))
     (text : List ℕ) : Type 0 where
   pub the_test : Test
@@ -71,6 +72,7 @@ pub record IsSitesText (is_free : Bool) (test : List ℕ) (prices : Option (List
   pub asked : IsPlaceAsked is_free test prices the_test places names offers
   pub put : ArePut names words (Some kinds)
   pub fits : are_offered offers kinds ≡ true
+  pub is_short : IsShort (fenced_at the_test places kinds)
   pub shown : text ≡ printed (fenced_at the_test places kinds) ++ cost_line offers kinds
 
 -- the first fault: of the prices, else of the file, else of the words, or that one's kind isn't offered at its site, else

@@ -44,6 +44,7 @@ pub(crate) fn write_fenced(
 ) -> Result<String, Fault>
     requires { IsTest test }
     ensures ok { IfOk result (λ text. string_bytes text ≡ printed (fenced test placement.now)) }
+    ensures short { IfOk result (λ text. IsShort (fenced test placement.now)) }
     ensures err { IfErr result (λ f. f ≢ Memory
         → (f ≡ TooBig Instructions) × ¬ IsShort (fenced test placement.now)) }
 {

@@ -170,6 +170,7 @@ fn placed_text(
     requires rising { is_rising (slots_at places.now) ≡ true }
     ensures ok { IfOk result (λ text. string_bytes text
         ≡ printed (fenced_at test places.now kinds.now) ++ cost_line (option_copied offers.entry) kinds.now) }
+    ensures short { IfOk result (λ text. IsShort (fenced_at test places.now kinds.now)) }
     ensures err { IfErr result (λ f. f ≢ Memory
         → (f ≡ TooBig Instructions) × ¬ IsShort (fenced_at test places.now kinds.now)) }
 {

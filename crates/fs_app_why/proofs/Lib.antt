@@ -1,4 +1,3 @@
 pub mod Certified
 pub mod Faults
 pub mod Texts
-pub mod Kept

@@ -4,6 +4,5 @@ pub mod Traces
 pub mod Signs
 pub mod Contradictions
 pub mod Forbidden
-pub mod Weaker
 pub mod Why
 pub mod inner

@@ -41,7 +41,7 @@ use Rattle.fs_app_why_kinds.specs.Words.{instr_named, line_of, text_of_instr}
 use Rattle.fs_app_why_nearer.specs.Reordered.{IsFirstShown, IsToldOf}
 use Rattle.fs_app_why.specs.Forbidden.{AreKinds, cycles_text}
 use Rattle.fs_app_why.specs.Traces.{trace_text}
-use Rattle.fs_app_why.specs.Weaker.{Serve, weaker_that, without_or_with}
+use Rattle.fs_app_why_nearer.specs.Weaker.{Serve, weaker_that, without_or_with}
 
 -- ---- of a witness to which `order` says yes, the execution that it gives
 

@@ -1,3 +1,2 @@
 -- What only inner functions and proofs need.
 pub mod Told
-pub mod Kept

@@ -15,7 +15,6 @@ mod ruled_out;
 mod signs;
 mod table;
 mod trace;
-mod weaker;
 mod without;
 mod words;
 

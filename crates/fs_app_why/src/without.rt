@@ -16,12 +16,11 @@ ghost use Rattle.fs_app_why_kinds.specs.Counted.{in_text};
 ghost use Rattle.fs_app_why_kinds.specs.Told.{fence_key};
 ghost use Rattle.fs_app_why.specs.Why.{NoWitnessShows, TellsFences, TellsFirst, TellsWithout, asked, fence_line};
 ghost use Rattle.fs_app_why.specs.Why.{head_text, instr_at, is_passed, named_text};
-ghost use Rattle.fs_app_why.specs.Weaker.{without_or_with};
+ghost use Rattle.fs_app_why_nearer.specs.Weaker.{without_or_with};
 
 use crate::order::told_below;
-use crate::weaker::{weaker_kinds, without_or_with};
 use fs_app_why_kinds::{Telling, code_of, fence_key, in_text, instr_text, line_of};
-use fs_app_why_nearer::first_without;
+use fs_app_why_nearer::{first_without, weaker_kinds, without_or_with};
 use fs_cert_evidence::WitnessFile;
 use fs_check::OrderedCandidate;
 use fs_kinds::{Entry, Fault, Kind, List, OperationName, Placement, Slot};

@@ -1,2 +1,3 @@
 pub mod FirstShown
 pub mod Reordering
+pub mod Kept

@@ -1,2 +1,4 @@
 pub mod Reordered
 pub mod First
+pub mod Weaker
+pub mod Kept

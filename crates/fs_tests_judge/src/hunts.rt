@@ -6,7 +6,7 @@ ghost use Rattle.fs_model.specs.Test.{IsBounded, IsStart};
 use crate::texts::{ADDERS, ALWAYS, CASES, LAST, LOCK, LOCK3, PAIRS, SEEN, SOURCES, THREE, UNTOLD};
 use fs_cert_evidence::{Names, WitnessFile};
 use fs_check::shown_by;
-use fs_judge_hunt::{Execution, Found, Kept};
+use fs_judge_hunt::{Execution, Found, Kept, Refutation};
 use fs_judge_runs::hunter_of;
 use fs_kinds::{Fault, Placement};
 use fs_litmus::{Test, read_test};
@@ -78,6 +78,40 @@ fn file_of(alloc: Global, execution: Execution) -> Result<WitnessFile, AllocErro
     })
 }
 
+/// Whether the inferences refute the test.
+fn refuted_words(
+    alloc: Global,
+    basis: &Basis,
+    placement: &Placement,
+    tree: &Refutation,
+) -> Result<&'static str, Fault> {
+    match reason_against(alloc, basis, placement, tree.inferences.as_slice())? {
+        None => Ok("refuted, None"),
+        Some(_) => Ok("refuted, but not so"),
+    }
+}
+
+/// Writes whether the execution shows the outcome, and of a first one which it is.
+fn write_shown(
+    alloc: Global,
+    test: &Test,
+    placement: &Placement,
+    file: &WitnessFile,
+    is_first: bool,
+    text: &mut String,
+) -> Result<(), Fault>
+    requires bounded { IsBounded test.now }
+    requires starts { All IsStart test.now.starts }
+{
+    let is_right = shown_by(alloc, test, placement, file)?.is_some();
+    write!(text, "shown {is_right}")?;
+    if is_first {
+        write_choices(file, text)?;
+        write_order(file, text)?;
+    }
+    Ok(())
+}
+
 /// What was found, in words.
 fn told(
     alloc: Global,
@@ -92,23 +126,10 @@ fn told(
 {
     let mut text = String::new(alloc);
     match found {
-        Found::Refuted(tree) => {
-            let why = reason_against(alloc, basis, placement, tree.inferences.as_slice())?;
-            text.push_str(if why.is_none() {
-                "refuted, None"
-            } else {
-                "refuted, but not so"
-            })?;
-        }
+        Found::Refuted(tree) => text.push_str(refuted_words(alloc, basis, placement, &tree)?)?,
         Found::Shown(execution) => {
             let file = file_of(alloc, execution)?;
-            let shown = shown_by(alloc, test, placement, &file)?;
-            let is_right = shown.is_some();
-            write!(text, "shown {is_right}")?;
-            if way.is_first {
-                write_choices(&file, &mut text)?;
-                write_order(&file, &mut text)?;
-            }
+            write_shown(alloc, test, placement, &file, way.is_first, &mut text)?;
         }
         Found::GaveUp => text.push_str("gave up")?,
     }

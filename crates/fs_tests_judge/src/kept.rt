@@ -15,6 +15,21 @@ use std::test::Fail;
 /// As many inferences as a refutation may have.
 const MOST: usize = 1000000;
 
+fn said_of(found: &Found) -> &'static str {
+    match found {
+        Found::Refuted(_) => "refuted",
+        Found::Shown(_) => "shown",
+        Found::GaveUp => "gave up",
+    }
+}
+
+/// How a hunt from nothing goes.
+fn hunted_anew(alloc: Global, hunter: &Hunter, placement: &Placement) -> Result<Kept, Fault> {
+    let mut none = Kept::new();
+    hunter.hunt(alloc, &mut none, placement, MOST)?;
+    Ok(none)
+}
+
 /// Writes how a hunt with these fences ends, whether it looks at no region, and whether it looks at fewer than half of
 /// those that a hunt from nothing looks at.
 fn write_hunt(
@@ -25,13 +40,8 @@ fn write_hunt(
     text: &mut String,
 ) -> Result<(), Fault> {
     let found = hunter.hunt(alloc, kept, placement, MOST)?;
-    let said = match found {
-        Found::Refuted(_) => "refuted",
-        Found::Shown(_) => "shown",
-        Found::GaveUp => "gave up",
-    };
-    let mut none = Kept::new();
-    hunter.hunt(alloc, &mut none, placement, MOST)?;
+    let said = said_of(&found);
+    let none = hunted_anew(alloc, hunter, placement)?;
     let is_known = kept.looks() == 0;
     let is_short = kept.looks() < none.looks() / 2;
     write!(text, "{said} {is_known} {is_short}\n")?;

@@ -20,6 +20,8 @@ mod kept;
 #[cfg(test)]
 mod laws;
 #[cfg(test)]
+mod rewriting;
+#[cfg(test)]
 mod runs;
 #[cfg(test)]
 mod site_labels;

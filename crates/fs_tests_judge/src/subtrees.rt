@@ -8,7 +8,7 @@ use fs_kinds::{Fault, Placement};
 use fs_litmus::read_test;
 use fs_region_refutation::{Basis, small_subtrees};
 use fs_tests_shared::placement_of;
-use std::alloc::Global;
+use std::alloc::{AllocError, Global};
 use std::sync::Arc;
 use std::test::Fail;
 
@@ -37,26 +37,41 @@ fn looked(
     Ok(text)
 }
 
-/// The same of what a hunt finds on this lock of three harts: with its sizes; where no size is known; and where each
-/// inference is said to be a whole subtree.
+/// A one for each of so many inferences.
+fn ones(alloc: Global, count: usize) -> Result<Vec<u32>, AllocError> {
+    let mut ones = Vec::new(alloc);
+    for _ in 0..count {
+        ones.push(1)?;
+    }
+    Ok(ones)
+}
+
+/// The same with its sizes; where no size is known; and where each inference is said to be a whole subtree.
+fn looked_by_sizes(
+    alloc: Global,
+    basis: &Basis,
+    placement: &Placement,
+    tree: &Refutation,
+) -> Result<String, Fault> {
+    let ones = ones(alloc, tree.sizes.len())?;
+    let mut lines = String::new(alloc);
+    for sizes in [tree.sizes.as_slice(), &[], ones.as_slice()] {
+        let line = looked(alloc, basis, placement, tree, sizes)?;
+        lines.push_str(line.as_str())?;
+    }
+    Ok(lines)
+}
+
+/// The same of what a hunt finds on this lock of three harts.
 fn all_looked(alloc: Global, text: &str) -> Result<String, Fault> {
     let test = Arc::new(alloc, read_test(alloc, text.as_bytes())?)?;
     let placement = placement_of(alloc, &test, LOCK3_FENCES)?;
     let basis = Basis::new(alloc, &test)?;
     let hunter = hunter_of(alloc, &test, basis.names(), basis.runs())?;
-    let mut lines = String::new(alloc);
-    let found = hunter.hunt(alloc, &mut Kept::new(), &placement, MOST)?;
-    if let Found::Refuted(tree) = found {
-        let mut ones = Vec::new(alloc);
-        for _ in &tree.sizes {
-            ones.push(1)?;
-        }
-        for sizes in [tree.sizes.as_slice(), &[], ones.as_slice()] {
-            let line = looked(alloc, &basis, &placement, &tree, sizes)?;
-            lines.push_str(line.as_str())?;
-        }
+    match hunter.hunt(alloc, &mut Kept::new(), &placement, MOST)? {
+        Found::Refuted(tree) => looked_by_sizes(alloc, &basis, &placement, &tree),
+        _ => Ok(String::new(alloc)),
     }
-    Ok(lines)
 }
 
 #[test]

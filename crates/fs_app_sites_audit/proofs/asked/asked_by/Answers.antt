@@ -3,7 +3,6 @@ use Rattle.std.specs.List.{enumerate_from}
 use Rattle.std.proofs.lemmas.List.{length-map}
 use Rattle.std.proofs.lemmas.List.FromFn.{length-enumerate_from}
 use Rattle.serde_json.specs.View.{view}
-use Rattle.fs_board_offers.specs.Offers.{Offers}
 use Rattle.fs_sites.specs.Questions.{Question}
 use Rattle.fs_app_sites.specs.Sites.{offer_of}
 use Rattle.fs_app_sites_audit.proofs.asked.asked_by.Goals as goal

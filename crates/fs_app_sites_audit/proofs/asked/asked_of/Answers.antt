@@ -5,7 +5,7 @@ use Rattle.fs_sites.specs.Questions.{IsQuestion}
 use Rattle.fs_app_sites.specs.Sites.{IsSound, offers_of, question_of}
 use Rattle.fs_app_sites.proofs.Questions.{is-question}
 use Rattle.fs_app_sites_audit.specs.Asked.{names_in}
-use Rattle.fs_app_sites_audit.specs.Marks.{marks_of, written_cost}
+use Rattle.fs_app_sites_audit.specs.Marks.{all_cost, marks_of, written_cost}
 use Rattle.fs_app_sites_audit.proofs.asked.asked_of.Goals as goal
 
 pub returns-clause-names : goal.returns-clause-names
@@ -30,3 +30,8 @@ pub returns-clause-written : goal.returns-clause-written
 returns-clause-written c =
     c.in_ok-asked_by.ensures.written
     ∙ ap (λ names. written_cost (marks_of names c.args.held.now) (offers_of (view c.args.prices.now) names)) c.in_ok-names.ensures
+
+pub returns-clause-all_cost : goal.returns-clause-all_cost
+returns-clause-all_cost c =
+    c.in_ok-asked_by.ensures.all_cost
+    ∙ ap (λ names. all_cost (marks_of names c.args.held.now) (offers_of (view c.args.prices.now) names)) c.in_ok-names.ensures

@@ -28,6 +28,7 @@ returns-clause-ok c =
       names = c.in_ok-asked.ensures.names;
       marks = c.in_ok-asked.ensures.marks;
       written = c.in_ok-asked.ensures.written;
+      all_cost = c.in_ok-asked.ensures.all_cost;
       kinds = c.in_ok-kinds.kinds.items;
       said = c.in_ok-kinds.ensures.ok;
       kind = c.together.ensures ∙ ap together c.deref.ensures.value;

@@ -38,5 +38,6 @@ returns-clause-text c =
       asked = passed-asked string_bytes is_free bytes _ _ _ _ _ c.deref-2.ensures c.deref.ensures prices _ asked;
       put = c.in_ok-kinds.ensures.ok;
       fits = sym c.are_offered.ensures ∙ yes;
+      is_short = c.in_ok-text.ensures.short;
       shown = c.in_ok-text.ensures.ok;
     }

@@ -10,3 +10,7 @@ returns-in_err-text-clause-err c =
     (λ n.
     let long = c.in_err-text.ensures.err n in
     (long.0, subst (λ p. IsShort (fenced c.args.test p) → ⊥) c.in_ok-fences.ensures.ok long.1))
+
+pub returns-clause-short : goal.returns-clause-short
+returns-clause-short c =
+    subst (λ p. IsShort (fenced c.args.test p)) c.in_ok-fences.ensures.ok c.in_ok-text.ensures.short

@@ -1,0 +1,2 @@
+pub mod Blanking
+pub mod Telling
