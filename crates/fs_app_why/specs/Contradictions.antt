@@ -3,7 +3,7 @@
 use Rattle.std.specs.Prelude.{ℕ, ◌+◌, ◌-◌, ◌==◌, nat_le, Bool, true, false, Option, None, Some, List, [], ◌∷◌, ◌++◌}
 use Rattle.std.specs.Prelude.{length, map, codes, if◌then◌else◌}
 use Rattle.std.specs.Fmt.{decimal}
-use Rattle.std.specs.List.{flat_map}
+use Rattle.std.specs.List.{flat_map, list_any}
 use Rattle.fs_instr.specs.declared.instr.Instr.{Instr}
 use Rattle.fs_kinds.specs.ReasonText.{operation_name}
 use Rattle.fs_model.specs.declared.test.Location.{Location}
@@ -163,7 +163,16 @@ above_text t telling kinds =
 abbrev pub nothing_left : List ℕ
 nothing_left = codes "\nNo values that the loads can return lead to the outcome, whatever the order of memory.\n"
 
+abbrev pub any_told : Telling → List ChainKind → Bool
+any_told telling kinds = list_any (is_told telling kinds) (numbers_below (length kinds))
+
+-- where none is told, since the fence that is asked for is in none
+abbrev pub none_there : List ℕ
+none_there = codes "\nThis fence is in none of the contradictions that rule the outcome out.\n"
+
 abbrev pub contradictions_text : Test → (lines : List (List ℕ)) → Telling → List ChainKind → List ℕ
 contradictions_text t lines telling kinds =
     if length kinds == 0 then nothing_left
-    else above_text t telling kinds ++ (told_text t lines telling kinds ++ rest_text telling kinds)
+    else if any_told telling kinds
+    then above_text t telling kinds ++ (told_text t lines telling kinds ++ rest_text telling kinds)
+    else none_there ++ rest_text telling kinds

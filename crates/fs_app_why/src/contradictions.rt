@@ -1,14 +1,15 @@
 //! Why an outcome is ruled out: the kinds of contradictions of a refutation, in print.
 
-ghost use Rattle.std.specs.Prelude.{◌≡◌, ◌≤◌, ◌<◌, length, IfOk, map, false, string_bytes, true};
+ghost use Rattle.std.specs.Prelude.{◌≡◌, ◌≤◌, ◌<◌, ◌++◌, length, IfOk, map, false, string_bytes, true};
 ghost use Rattle.fs_kinds.specs.Limits.{most_locations};
 ghost use Rattle.fs_model.specs.Forms.{is_loading, is_storing};
+ghost use Rattle.fs_app_why_kinds.specs.Counted.{rest_text};
 ghost use Rattle.fs_app_why_kinds.specs.Words.{text_of_instr};
-ghost use Rattle.fs_app_why.specs.Contradictions.{above_text, again, also_text, amo_text, below_by, chain_text};
-ghost use Rattle.fs_app_why.specs.Contradictions.{contradictions_text, cycle_text, does_by, does_known, does_there};
-ghost use Rattle.fs_app_why.specs.Contradictions.{end_text, headed, heading_of, initial_text, is_text, kind_text};
-ghost use Rattle.fs_app_why.specs.Contradictions.{link_row, loaded_text, numbered_text, others_text, shape_text};
-ghost use Rattle.fs_app_why.specs.Contradictions.{told_text, unsaid_text};
+ghost use Rattle.fs_app_why.specs.Contradictions.{above_text, again, also_text, amo_text, any_told, below_by};
+ghost use Rattle.fs_app_why.specs.Contradictions.{chain_text, contradictions_text, cycle_text, does_by, does_known};
+ghost use Rattle.fs_app_why.specs.Contradictions.{does_there, end_text, headed, heading_of, initial_text, is_text};
+ghost use Rattle.fs_app_why.specs.Contradictions.{kind_text, link_row, loaded_text, none_there, numbered_text};
+ghost use Rattle.fs_app_why.specs.Contradictions.{others_text, shape_text, told_text, unsaid_text};
 
 use crate::rows::{line_cell, name_cell};
 use crate::signs::{Sign, some_told};
@@ -423,6 +424,24 @@ fn above_text(
     )
 }
 
+/// Is a kind told? Not where the fence that is asked for is in none.
+fn any_told(telling: Telling, kinds: &[ChainKind]) -> bool
+    ensures { result ≡ any_told telling kinds.now }
+{
+    (0..kinds.len()).any(|number| is_told(telling, kinds, number))
+}
+
+/// That the fence is in none, above how many there are.
+fn none_there(alloc: Global, telling: Telling, kinds: &[ChainKind]) -> Result<String, AllocError>
+    ensures { IfOk result (λ text. string_bytes text ≡ none_there ++ rest_text telling kinds.now) }
+{
+    let rest = rest_text(alloc, telling, kinds)?;
+    format!(in alloc;
+        "\nThis fence is in none of the contradictions that rule the outcome out.\n{}",
+        rest.as_str()
+    )
+}
+
 /// The kinds of contradictions in print: those that are told, and how many there are besides. The square of the kinds,
 /// times that of the fences in each. The error is want of memory.
 pub fn contradictions_text(
@@ -440,6 +459,9 @@ pub fn contradictions_text(
         return format!(in alloc;
             "\nNo values that the loads can return lead to the outcome, whatever the order of memory.\n"
         );
+    }
+    if !any_told(telling, kinds) {
+        return none_there(alloc, telling, kinds);
     }
     let above = above_text(alloc, test, telling, kinds)?;
     let told = told_text(alloc, test, lines, telling, kinds)?;
