@@ -15,11 +15,10 @@ use fs_app_error_messages::{explain_test, shown_name};
 use fs_app_files::{Paper, Papers, fault_object};
 use fs_app_io::{Output, Source, sources, tell, write_whole};
 use fs_app_sites::{
-    File, Limits, Solved, Tests, add_copies, check_file, check_prices, first_at_fault,
+    File, Limits, Solved, Tests, add_copies, check_file, check_prices, first_at_fault, needs_text,
     read_all_copies, run_sites,
 };
 use fs_app_sites_check::{run_sites_certified, run_sites_check};
-use fs_app_sites_needs::needs_text;
 use fs_app_test::{Note, test_file, test_objects};
 use fs_kinds::{Fault, List};
 use fs_litmus::read_test;

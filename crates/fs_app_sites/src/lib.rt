@@ -1,5 +1,6 @@
 //! What `solve --sites` answers, from the bytes of tests whose labels name sites to the text that is printed: one fence
 //! for a site in all its copies, so that no test's outcome is left. With `--free` slots are sites of their own.
+//! And which test needs which of the fences.
 #![tactic(auto)]
 
 mod ask;
@@ -7,6 +8,7 @@ mod content;
 mod free;
 mod laws;
 mod names;
+mod needs;
 mod prices;
 mod question;
 mod report;
@@ -17,6 +19,7 @@ pub use content::{File, SiteCopy, Tests, check_file, read_all_copies, read_copie
 pub use fs_sites_workers::Limits;
 pub use laws::slots_stand_as_slots;
 pub use names::add_copies;
+pub use needs::needs_text;
 pub use prices::{SitePrices, check_prices, read_site_prices};
 pub use question::{MOST_SITES, key, offers_of, places_of};
 pub use report::{answer_text, answer_value};

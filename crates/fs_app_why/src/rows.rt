@@ -15,7 +15,7 @@ use crate::table::Row;
 use crate::words::word_text;
 use fs_app_test::value_text;
 use fs_app_why_kinds::line_of;
-use fs_app_why_told::Told;
+use fs_app_why_nearer::Told;
 use fs_instr::{Instr, write_instr};
 use fs_kinds::{List, OperationName};
 use fs_model::{Location, Name, Test, stands_before};

@@ -1,3 +1,4 @@
 pub mod FirstShown
 pub mod Reordering
 pub mod Kept
+pub mod Numbered

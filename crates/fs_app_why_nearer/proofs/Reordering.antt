@@ -15,9 +15,9 @@ use Rattle.fs_model.specs.Witness.{Witness, Chooses, IsOfWitness}
 use Rattle.fs_model.proofs.Ranges.{each_below, each_two_below, implies_at}
 use Rattle.fs_model.proofs.Runs.{run_once}
 use Rattle.fs_cert_evidence.specs.Shown.{ShowsAs}
-use Rattle.fs_app_why_told.specs.Alike.{comes_first, is_alike, is_same_source, keeps_coherence, keeps_first, keeps_source, keeps_sources}
+use Rattle.fs_app_why_nearer.specs.Alike.{comes_first, is_alike, is_same_source, keeps_coherence, keeps_first, keeps_source, keeps_sources}
 use Rattle.fs_app_why_nearer.specs.Reordered.{IsReordered, IsToldOf, co}
-use Rattle.fs_app_why_told.specs.Executions.{source_at, told_of}
+use Rattle.fs_app_why_nearer.specs.Executions.{source_at, told_of}
 
 -- ---- what the tests say
 

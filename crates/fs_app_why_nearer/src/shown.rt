@@ -10,8 +10,8 @@ ghost use Rattle.fs_cert_evidence.specs.WitnessFile.{KeepsWitness, in_range};
 ghost use Rattle.fs_check.specs.Ordered.{IsOrdered, execution_in};
 ghost use Rattle.fs_app_why_nearer.specs.Reordered.{IsToldOf};
 
+use crate::alike::is_alike;
 use crate::relation::nearer_order;
-use fs_app_why_told::is_alike;
 use fs_cert_evidence::{ChoiceLists, Choices, Names, WitnessFile};
 use fs_check::{OrderedCandidate, shown_by};
 use fs_kinds::{Fault, OperationName, Placement, Slot};

@@ -14,7 +14,7 @@ use Rattle.fs_model.specs.Shows.{final_register, final_word}
 use Rattle.fs_model.specs.TooMany.{AreMoreThan, IsRunFault}
 use Rattle.fs_model.specs.Witness.{IsOfWitness}
 use Rattle.fs_cert_evidence.specs.CandidateFaults.{IsCandidateFault}
-pub use Rattle.fs_judge_states_limit.specs.Limit.{most_states}
+pub use Rattle.fs_judge_final_states.specs.Limit.{most_states}
 use Rattle.fs_judge_final_states.specs.declared.place.Place.{Place}
 use Rattle.fs_judge_final_states.specs.declared.place.Place.TheVariants.{Register, Location}
 use Rattle.fs_judge_final_states.specs.declared.state.State.{State}

@@ -6,6 +6,7 @@ mod barren;
 mod condition;
 mod ended;
 mod known;
+mod limit;
 mod listing;
 mod lore;
 mod moved;

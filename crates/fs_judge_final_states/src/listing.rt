@@ -17,13 +17,13 @@ ghost use Rattle.fs_judge_final_states.specs.States.{words_of};
 ghost use Rattle.fs_judge_final_states.specs.inner.Parts.{states_in, IsListed, IsLore};
 
 use crate::known::{Known, keep, listed};
+use crate::limit::are_too_many;
 use crate::lore::{Lore, found_in, no_lore};
 use crate::part::Part;
 use crate::place::Place;
 use crate::splitting::split;
 use crate::state::State;
 use fs_judge::Problem;
-use fs_judge_states_limit::are_too_many;
 use fs_kinds::{Fault, List, Placement};
 use fs_model::Test;
 use std::alloc::{AllocError, Global};

@@ -1,13 +1,13 @@
 //! More states than a list may have.
 
 ghost use Rattle.std.specs.Prelude.{◌≡◌, ◌<◌, ◌≤◌, true, false};
-ghost use Rattle.fs_judge_states_limit.specs.Limit.{most_states};
+ghost use Rattle.fs_judge_final_states.specs.Limit.{most_states};
 
 /// How many states a list may have.
 const MOST_STATES: usize = 200_000;
 
 /// Are these more states than a list may have?
-pub fn are_too_many(states: usize) -> bool
+pub(crate) fn are_too_many(states: usize) -> bool
     ensures more { result ≡ true → most_states < states }
     ensures few { result ≡ false → states ≤ most_states }
 {

@@ -1,7 +1,7 @@
 use Rattle.std.proofs.Common.{◌∙◌}
 use Rattle.fs_check.specs.Ordered.{runs_in}
-use Rattle.fs_app_why_told.proofs.Numbered.{same_sources}
-use Rattle.fs_app_why_told.proofs.told.sources.Goals as goal
+use Rattle.fs_app_why_nearer.proofs.Numbered.{same_sources}
+use Rattle.fs_app_why_nearer.proofs.told.sources.Goals as goal
 
 pub returns : goal.returns
 returns c =

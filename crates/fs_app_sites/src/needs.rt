@@ -3,12 +3,14 @@
 ghost use Rattle.std.specs.Prelude.{All};
 ghost use Rattle.fs_sites.specs.Questions.{IsPart};
 
+use crate::ask::{Asked, read_question};
+use crate::content::Tests;
 use fs_app_error_messages::shown_name;
-use fs_app_sites::{Asked, Limits, Tests, read_question};
 use fs_judge::{Judge, Problem, Verdict};
 use fs_kinds::{Fault, Placement, Slot};
 use fs_sites::{Answer, Part, image};
 use fs_sites_search::solve;
+use fs_sites_workers::Limits;
 use std::alloc::{AllocError, Global};
 use std::sync::Arc;
 

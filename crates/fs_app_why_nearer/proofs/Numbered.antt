@@ -8,7 +8,7 @@ use Rattle.fs_model.specs.Numbers.{numbers_below}
 use Rattle.fs_model.specs.Source.{source_in}
 use Rattle.fs_check.specs.declared.ordered.OrderedCandidate.{OrderedCandidate}
 use Rattle.fs_check.specs.Ordered.{IsOrdered, runs_in}
-use Rattle.fs_app_why_told.specs.Executions.{told_of}
+use Rattle.fs_app_why_nearer.specs.Executions.{told_of}
 
 pub name_more : {A : Type 0} (f : ℕ → A) (items pushed : List A) (a : A) (n : ℕ)
     → items ≡ map f (range_with_len 0 n) → a ≡ f n → pushed ≡ items ++ a ∷ [] → pushed ≡ map f (range_with_len 0 (n + 1))

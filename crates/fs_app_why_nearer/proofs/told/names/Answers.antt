@@ -1,7 +1,7 @@
 use Rattle.std.proofs.Common.{◌∙◌, length, arith}
 use Rattle.fs_cand_witness.specs.Naming.{name_at}
-use Rattle.fs_app_why_told.proofs.Numbered.{name_more, all_names}
-use Rattle.fs_app_why_told.proofs.told.names.Goals as goal
+use Rattle.fs_app_why_nearer.proofs.Numbered.{name_more, all_names}
+use Rattle.fs_app_why_nearer.proofs.told.names.Goals as goal
 
 pub loop-a-preserved : goal.loop-a-preserved
 loop-a-preserved c =

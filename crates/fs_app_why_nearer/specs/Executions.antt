@@ -7,7 +7,7 @@ use Rattle.fs_model.specs.Numbers.{numbers_below}
 use Rattle.fs_model.specs.Operations.{PreExecution, nothing, operations}
 use Rattle.fs_model.specs.Source.{source_in}
 use Rattle.fs_model.specs.Witness.{name_of}
-use Rattle.fs_app_why_told.specs.declared.told.Told.{Told}
+use Rattle.fs_app_why_nearer.specs.declared.told.Told.{Told}
 
 -- its operations, and of each the name and the source, by their numbers; and the order of the harts' own
 abbrev pub told_of : PreExecution → List ℕ → Told

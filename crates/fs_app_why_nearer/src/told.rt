@@ -6,7 +6,7 @@ ghost use Rattle.fs_model.specs.Numbers.{numbers_below};
 ghost use Rattle.fs_model.specs.Operations.{nothing};
 ghost use Rattle.fs_cand_witness.specs.Naming.{name_at as name_there};
 ghost use Rattle.fs_check.specs.Ordered.{IsOrdered, runs_in};
-ghost use Rattle.fs_app_why_told.specs.Executions.{told_of, operation_at, name_at, source_at};
+ghost use Rattle.fs_app_why_nearer.specs.Executions.{told_of, operation_at, name_at, source_at};
 
 use fs_cand::Candidate;
 use fs_cand_witness::operation_name;

@@ -4,9 +4,9 @@ ghost use Rattle.std.specs.Prelude.{◌≡◌, length, IfOk};
 ghost use Rattle.std.specs.List.{list_all};
 ghost use Rattle.fs_model.specs.Numbers.{numbers_below};
 ghost use Rattle.fs_check.specs.Ordered.{IsOrdered, runs_in};
-ghost use Rattle.fs_app_why_told.specs.Executions.{told_of};
-ghost use Rattle.fs_app_why_told.specs.Alike.{comes_first, is_alike, is_same_source, keeps_coherence, keeps_first};
-ghost use Rattle.fs_app_why_told.specs.Alike.{keeps_later, keeps_source, keeps_sources};
+ghost use Rattle.fs_app_why_nearer.specs.Executions.{told_of};
+ghost use Rattle.fs_app_why_nearer.specs.Alike.{comes_first, is_alike, is_same_source, keeps_coherence, keeps_first};
+ghost use Rattle.fs_app_why_nearer.specs.Alike.{keeps_later, keeps_source, keeps_sources};
 
 use crate::told::{Told, told_by};
 use fs_check::OrderedCandidate;
@@ -76,7 +76,7 @@ fn keeps_coherence(told: &Told, other: &Told) -> bool
 }
 
 /// Have both orders the same sources and coherence orders? The cost is at most cubic in the operations.
-pub fn is_alike(
+pub(crate) fn is_alike(
     alloc: Global,
     test: &Test,
     first: &OrderedCandidate,

@@ -1,7 +1,7 @@
 use Rattle.std.proofs.Common.{◌≡◌, map}
 use Rattle.std.specs.List.{range_with_len}
 use Rattle.fs_cand_witness.specs.Naming.{name_at}
-use Rattle.fs_app_why_told.proofs.told.names.Given as goal
+use Rattle.fs_app_why_nearer.proofs.told.names.Given as goal
 
 -- the names of the operations so far
 abbrev pub invariant-loop-a : goal.invariant-loop-a

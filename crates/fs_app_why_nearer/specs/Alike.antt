@@ -2,8 +2,8 @@
 use Rattle.std.specs.Prelude.{ℕ, ◌==◌, Bool, true, false, ◌&&◌, ◌||◌, not, Option, None, Some, is_some, length}
 use Rattle.std.specs.List.{list_all}
 use Rattle.fs_model.specs.Numbers.{is_same, numbers_below, stands_before}
-use Rattle.fs_app_why_told.specs.declared.told.Told.{Told}
-use Rattle.fs_app_why_told.specs.Executions.{operation_at, source_at}
+use Rattle.fs_app_why_nearer.specs.declared.told.Told.{Told}
+use Rattle.fs_app_why_nearer.specs.Executions.{operation_at, source_at}
 
 abbrev pub is_same_source : Option ℕ → Option ℕ → Bool
 is_same_source (Some a) (Some b) = a == b

@@ -1,2 +1,0 @@
-pub mod Executions
-pub mod Alike
