@@ -12,7 +12,7 @@ use Rattle.fs_litmus.specs.Faults.{HasFault, IsTestFault}
 use Rattle.fs_litmus.proofs.FrontFaults.{tokens_once}
 use Rattle.fs_app_error_messages.specs.Apart.{apart}
 use Rattle.fs_app_error_messages.proofs.Fine.{no_condition_fault, form_of_fault}
-use Rattle.fs_app_bad_atoms.specs.Atoms.{HasNoBadAtom, IsBadAtomOf}
+use Rattle.fs_app_error_messages.specs.Atoms.{HasNoBadAtom, IsBadAtomOf}
 use Rattle.fs_app_error_messages.specs.Points.{aim_of, line_of, IsFaultIn, IsFaultOf, IsNowhere, IsPoint, encoding, title, token, atom, finish}
 use Rattle.fs_app_error_messages.specs.declared.point.Aim.TheVariants.{Title, InLine, Nowhere}
 use Rattle.fs_app_error_messages.specs.declared.point.Point.{Point}

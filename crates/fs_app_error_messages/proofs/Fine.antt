@@ -17,8 +17,8 @@ use Rattle.fs_litmus.specs.Reads.{HasTokens, HasForm}
 use Rattle.fs_litmus.specs.Faults.{HasFault, meaning, IsFormFault, code, atom as of_atom}
 use Rattle.fs_litmus.proofs.CodeFaults.{code_low}
 use Rattle.fs_litmus.proofs.FrontFaults.{tokens_once}
-use Rattle.fs_app_bad_atoms.specs.Atoms.{IsBad, IsSign, BeginsBad, IsBadAfter, HasNoBadAtom, ends_open, opens, is_absent, is_out_of_range}
-use Rattle.fs_app_bad_atoms.proofs.Bad.{absent_bad, far_bad, HasTarget, HasValue, is_there}
+use Rattle.fs_app_error_messages.specs.Atoms.{IsBad, IsSign, BeginsBad, IsBadAfter, HasNoBadAtom, ends_open, opens, is_absent, is_out_of_range}
+use Rattle.fs_app_error_messages.proofs.Bad.{absent_bad, far_bad, HasTarget, HasValue, is_there}
 
 -- ---- from the tokens
 

@@ -5,3 +5,6 @@ pub mod Telling
 pub mod Relined
 pub mod Aims
 pub mod Fine
+pub mod Stopping
+pub mod BadAtoms
+pub mod Bad

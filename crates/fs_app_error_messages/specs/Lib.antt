@@ -4,3 +4,4 @@ pub mod Apart
 pub mod Points
 pub mod Messages
 pub mod Explained
+pub mod Atoms

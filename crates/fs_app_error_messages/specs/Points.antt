@@ -9,7 +9,7 @@ use Rattle.fs_litmus.specs.Title.{top_of, HasBody}
 use Rattle.fs_litmus.specs.Reads.{HasTokens}
 use Rattle.fs_litmus.specs.Faults.{HasFault, IsTestFault}
 use Rattle.fs_app_error_messages.specs.Apart.{apart, renumbered}
-use Rattle.fs_app_bad_atoms.specs.Atoms.{IsBadAtomOf}
+use Rattle.fs_app_error_messages.specs.Atoms.{IsBadAtomOf}
 use Rattle.fs_app_error_messages.specs.Walks.{BeginsAt}
 use Rattle.fs_app_error_messages.specs.declared.point.Aim.{Aim}
 use Rattle.fs_app_error_messages.specs.declared.point.Aim.TheVariants.{Encoding, Title, InLine, Atom, Nowhere}

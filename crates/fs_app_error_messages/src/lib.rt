@@ -3,7 +3,9 @@
 #![tactic(auto)]
 
 mod apart;
+mod atoms;
 mod bindings;
+mod condition;
 mod fences;
 mod file;
 mod hints;

@@ -14,10 +14,10 @@ ghost use Rattle.fs_app_error_messages.specs.Points.{aim_of, line_of, end_of, is
 ghost use Rattle.fs_app_error_messages.specs.Points.{IsPoint};
 
 use crate::apart::apart;
+use crate::condition::atom_number;
 use crate::slices::from;
 use crate::title::{body_start, title_start};
 use crate::walk::token_start;
-use fs_app_condition_faults::atom_number;
 use fs_kinds::Fault;
 use fs_litmus::read_test;
 use fs_litmus_tokens::{Token, tokens};

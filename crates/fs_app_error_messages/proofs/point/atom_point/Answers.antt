@@ -1,7 +1,7 @@
 use Rattle.std.proofs.Common.{subst, refl}
 use Rattle.fs_litmus_tokens.specs.Tokens.{views}
 use Rattle.fs_litmus.specs.Reads.{HasTokens}
-use Rattle.fs_app_bad_atoms.specs.Atoms.{IsBadAtomOf}
+use Rattle.fs_app_error_messages.specs.Atoms.{IsBadAtomOf}
 use Rattle.fs_app_error_messages.specs.Points.{atom}
 use Rattle.fs_app_error_messages.proofs.Aims.{atom_of_these, open_atom}
 use Rattle.fs_app_error_messages.proofs.Pointing.{tokens_of, token_at}

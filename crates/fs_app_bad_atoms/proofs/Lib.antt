@@ -1,2 +1,0 @@
-pub mod BadAtoms
-pub mod Bad
