@@ -17,7 +17,7 @@ use Rattle.fs_model_in_place.specs.InPlace.{kind_there, places, written_at}
 use Rattle.fs_board_offers.specs.Offers.{Offer, Offers, kind_cost}
 use Rattle.fs_app_io.specs.declared.status.Status.{Status}
 use Rattle.fs_app_io.specs.declared.status.Status.TheVariants as status
-pub use Rattle.fs_app_audit_prices.specs.Prices.{price_above, written_price, price_below, price_in_place, weighed}
+pub use Rattle.fs_app_audit.specs.Prices.{price_above, written_price, price_below, price_in_place, weighed}
 use Rattle.fs_app_audit.specs.Standing.{access_after, is_at, is_between_accesses}
 use Rattle.fs_app_audit.specs.Advice.{is_content, is_device_fence, slot_of}
 use Rattle.fs_app_audit.specs.Report.{advised, line_of}

@@ -7,3 +7,4 @@ pub mod Audit
 pub mod Blocks
 pub mod Priced
 pub mod inner
+pub mod Prices

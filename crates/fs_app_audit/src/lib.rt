@@ -16,6 +16,7 @@ mod in_place_advice;
 mod laws;
 mod places;
 mod priced;
+mod prices;
 mod removal;
 mod report;
 mod report_in_place;

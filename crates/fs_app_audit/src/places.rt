@@ -11,8 +11,8 @@ ghost use Rattle.fs_app_audit.specs.InPlace.{offer_in_place, offers_in_place, pr
 ghost use Rattle.fs_app_audit.specs.InPlace.{weighed, weighed_by, weight_in_place, weight_there, written_cost};
 
 use crate::advice::{code_of, kind_there, slot_of};
+use crate::prices::cost_in_place;
 use crate::standing::access_after;
-use fs_app_audit_prices::cost_in_place;
 use fs_board_offers::{Offer, Offers};
 use fs_instr::Instr;
 use fs_kinds::{Kind, Prices, Slot};

@@ -13,6 +13,7 @@ ghost use Rattle.fs_board_search.specs.Histories.{GoesOn};
 ghost use Rattle.fs_pool_workers.specs.Ends.{GoesOnFrom};
 
 use crate::gate::{Alone, Gate};
+use crate::handed::handed_out;
 use crate::hunters::Hunters;
 use crate::work::Workplace;
 use fs_board::Board;
@@ -23,7 +24,6 @@ use fs_board_search::{
 use fs_cert_evidence::Witness;
 use fs_kinds::Fault;
 use fs_pool::{Asked, Desk, Hand, Pass, hands};
-use fs_pool_handover::handed_out;
 use std::alloc::{AllocError, Global};
 use std::marker::Brand;
 use std::sync::{Arc, Wait};

@@ -5,6 +5,7 @@
 
 mod crew;
 mod gate;
+mod handed;
 mod hunters;
 mod work;
 

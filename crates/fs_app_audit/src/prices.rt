@@ -4,7 +4,7 @@ ghost use Rattle.std.specs.Prelude.{◌≡◌, ◌≤◌, IfSome};
 ghost use Rattle.fs_kinds.specs.Kind.{all_kinds};
 ghost use Rattle.fs_kinds.specs.PriceTable.{most_weight};
 ghost use Rattle.fs_board_offers.specs.Breaks.{least_of};
-ghost use Rattle.fs_app_audit_prices.specs.Prices.{price_above, price_below, price_in_place, weighed, written_price};
+ghost use Rattle.fs_app_audit.specs.Prices.{price_above, price_below, price_in_place, weighed, written_price};
 
 use fs_board_offers::lesser;
 use fs_kinds::{Kind, Prices};
@@ -61,7 +61,7 @@ fn price_below(prices: &Prices, own: Kind, kind: Kind) -> Option<u32>
 }
 
 /// What a kind costs in the place of a FENCE of this kind; nothing where it can't stand there. It takes constant time.
-pub fn price_in_place(prices: &Prices, own: Option<Kind>, kind: Kind) -> Option<u32>
+fn price_in_place(prices: &Prices, own: Option<Kind>, kind: Kind) -> Option<u32>
     ensures value { result ≡ price_in_place prices.now own kind }
     ensures most { IfSome result (λ n. n ≤ 1000000) }
 {
@@ -70,7 +70,12 @@ pub fn price_in_place(prices: &Prices, own: Option<Kind>, kind: Kind) -> Option<
 }
 
 /// The same, times the weight. It takes constant time.
-pub fn cost_in_place(prices: &Prices, weight: u32, own: Option<Kind>, kind: Kind) -> Option<u32>
+pub(crate) fn cost_in_place(
+    prices: &Prices,
+    weight: u32,
+    own: Option<Kind>,
+    kind: Kind,
+) -> Option<u32>
     requires { weight ≤ most_weight }
     ensures { result ≡ weighed weight (price_in_place prices.now own kind) }
 {

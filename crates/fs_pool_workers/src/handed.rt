@@ -10,7 +10,7 @@ use fs_pool::{Asked, Desk, Pass, finish};
 /// The board that the workers leave, with nodes that are open or held where they lacked memory or met the limit: its
 /// log since the desk was made agrees with the passes. None where `finish` hands none out: then the lock or the threads
 /// didn't do as they should. The cost is that of `finish`.
-pub fn handed_out<A: Asked>(desk: Desk<A>, passes: Vec<Pass<A>>) -> Option<Board>
+pub(crate) fn handed_out<A: Asked>(desk: Desk<A>, passes: Vec<Pass<A>>) -> Option<Board>
     ensures asked { IfSome result (λ b. IsAsked b A.question A.limit) }
     ensures agreed { IfSome result (λ b. IsAgreed passes.items (drop desk.since b.log)) }
 {
