@@ -8,7 +8,7 @@ use Rattle.fs_model.specs.Test.{IsSame}
 use Rattle.fs_model.specs.Witness.{Witness}
 use Rattle.fs_litmus.specs.Faults.{IsTestFault}
 use Rattle.fs_litmus.specs.Reads.{Reads}
-use Rattle.fs_model_in_place.specs.InPlace.{emptied}
+use Rattle.fs_model_laws.specs.InPlace.{emptied}
 use Rattle.fs_board_search.specs.Answers.{IsLimitFault}
 use Rattle.fs_app_place_order.specs.Place.{ArePricesOf}
 use Rattle.fs_app_place_order.proofs.Faults.{is_memory}

@@ -13,8 +13,8 @@ use Rattle.fs_instr.specs.declared.letters.Letters.{Letters}
 use Rattle.fs_model.specs.declared.test.Test.{Test}
 use Rattle.fs_model.specs.Condition.{SpeaksOf, condition_of}
 use Rattle.fs_model.specs.Test.{GoesForward, IsBounded, IsTest}
-use Rattle.fs_model_in_place.specs.InPlace.{emptied, emptied_instr}
-use Rattle.fs_model_in_place.proofs.Emptying.{same_of_emptied}
+use Rattle.fs_model_laws.specs.InPlace.{emptied, emptied_instr}
+use Rattle.fs_model_laws.proofs.Emptying.{same_of_emptied}
 use Rattle.fs_app_audit.specs.Unfenced.{is_fence, names_devices, is_kept, position, moved, unfenced_code, unfenced, devices, eased_instr, eased}
 
 -- ---- counting what is kept

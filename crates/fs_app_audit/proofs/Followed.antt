@@ -7,10 +7,10 @@ use Rattle.fs_model.specs.declared.test.Test.{Test}
 use Rattle.fs_model.specs.Allows.{Allows, no_fences}
 use Rattle.fs_model.specs.Test.{IsSame}
 use Rattle.fs_kinds.specs.declared.slot.Slot.{Slot}
-use Rattle.fs_model_in_place.specs.InPlace.{IsFollowed, as_written, emptied, followed}
-use Rattle.fs_model_in_place.proofs.FollowedLines.{is_followed}
+use Rattle.fs_model_laws.specs.InPlace.{IsFollowed, as_written, emptied, followed}
+use Rattle.fs_model_laws.proofs.FollowedLines.{is_followed}
 use Rattle.fs_app_audit.proofs.Weaker.{keeps_no_more}
-use Rattle.fs_model_in_place.proofs.EmptiedExecutions.{followed_ruled_out, same_allowed_in_place}
+use Rattle.fs_model_laws.proofs.EmptiedExecutions.{followed_ruled_out, same_allowed_in_place}
 use Rattle.fs_model_laws.proofs.FencedSame.{shows_same}
 use Rattle.fs_kinds.specs.PriceTable.{PriceTable, IsPriceTable}
 use Rattle.fs_board_offers.specs.Offers.{Offers, IsPlacement}

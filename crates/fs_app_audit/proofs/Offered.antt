@@ -15,8 +15,8 @@ use Rattle.fs_kinds.specs.PriceTable.{PriceTable, IsPriceTable, most_price}
 use Rattle.fs_kinds.specs.PriceTable as priced
 use Rattle.fs_kinds.specs.Slot.{is_rising, is_same_slot}
 use Rattle.fs_model.specs.declared.test.Test.{Test}
-use Rattle.fs_model_in_place.specs.InPlace.{as_written, places, written_at}
-use Rattle.fs_model_in_place.proofs.WrittenPlaces.{with_each, slots_of_each, rising-places}
+use Rattle.fs_model_laws.specs.InPlace.{as_written, places, written_at}
+use Rattle.fs_model_laws.proofs.WrittenPlaces.{with_each, slots_of_each, rising-places}
 use Rattle.fs_model_laws.proofs.PlacedPairs.{same_slot, itself}
 use Rattle.fs_board_offers.specs.Breaks.{least_of, lesser_of}
 use Rattle.fs_board_offers.specs.Offers.{Offer, AreOffers, IsPlacement, price_of, is_offered, kind_cost, slots, offer_at, nothing, are_offered}

@@ -3,7 +3,7 @@ use Rattle.std.proofs.Common.{◌≡◌, ap, map, refl, List}
 use Rattle.fs_instr.specs.declared.instr.Instr.{Instr}
 use Rattle.fs_model.specs.declared.test.Test.{Test}
 use Rattle.fs_model.specs.Test.{IsBounded, IsSame}
-use Rattle.fs_model_in_place.specs.InPlace.{emptied, emptied_code}
+use Rattle.fs_model_laws.specs.InPlace.{emptied, emptied_code}
 use Rattle.fs_app_audit.specs.Unfenced.{eased_code, unfenced, unfenced_code}
 use Rattle.fs_app_audit.specs.Audit.{asked, bare}
 use Rattle.fs_app_audit.specs.declared.asked.Purpose.{Purpose}

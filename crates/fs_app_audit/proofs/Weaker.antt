@@ -13,8 +13,8 @@ use Rattle.fs_kinds.specs.PriceTable.{PriceTable}
 use Rattle.fs_kinds.specs.PriceTable as priced
 use Rattle.fs_kinds.specs.Slot.{is_same_slot}
 use Rattle.fs_model.specs.declared.test.Test.{Test}
-use Rattle.fs_model_in_place.specs.InPlace.{as_written, places, written_at}
-use Rattle.fs_model_in_place.proofs.WrittenPlaces.{written_is}
+use Rattle.fs_model_laws.specs.InPlace.{as_written, places, written_at}
+use Rattle.fs_model_laws.proofs.WrittenPlaces.{written_is}
 use Rattle.fs_model_laws.specs.Strength.{KeepsNoMore}
 use Rattle.fs_model_laws.proofs.PlacedPairs.{same_slot, subset_at}
 use Rattle.fs_board_offers.specs.Offers.{Offers, IsPlacement, price_of, is_offered, offer_at, nothing, are_offered}

@@ -10,7 +10,7 @@ use Rattle.fs_kinds.specs.declared.slot.Slot.{Slot}
 use Rattle.fs_kinds.specs.Placement.{has_slot, kind_at}
 use Rattle.fs_model.specs.Numbers.{is_same, numbers_below}
 use Rattle.fs_model.specs.Slots.{slot_at, is_memory_at}
-pub use Rattle.fs_model_in_place.specs.InPlace.{kind_there}
+pub use Rattle.fs_model_laws.specs.InPlace.{kind_there}
 use Rattle.fs_app_audit.specs.Unfenced.{position}
 use Rattle.fs_app_audit.specs.Standing.{is_at, is_fence_at, access_after, answering, covers, is_of, is_between_accesses}
 use Rattle.fs_app_audit.specs.declared.advice.Advice.{Advice}

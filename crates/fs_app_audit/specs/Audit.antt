@@ -18,7 +18,7 @@ use Rattle.fs_model.specs.Fenced.{fenced}
 use Rattle.fs_model.specs.Placed.{fits}
 use Rattle.fs_model.specs.Printed.{printed}
 use Rattle.fs_model.specs.Witness.{Witness}
-use Rattle.fs_model_in_place.specs.InPlace.{emptied}
+use Rattle.fs_model_laws.specs.InPlace.{emptied}
 use Rattle.fs_board_offers.specs.Offers as offers
 use Rattle.fs_board_search.specs.Answers.{IsLimitFault}
 use Rattle.fs_cert_evidence.specs.Certificate.{IsLeastCost}

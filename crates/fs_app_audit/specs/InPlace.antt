@@ -13,7 +13,7 @@ use Rattle.fs_kinds.specs.PriceTable as anew
 use Rattle.fs_model.specs.Numbers.{numbers_below}
 use Rattle.fs_model.specs.Printed.{ended}
 use Rattle.fs_model.specs.Slots.{slot_at}
-use Rattle.fs_model_in_place.specs.InPlace.{kind_there, places, written_at}
+use Rattle.fs_model_laws.specs.InPlace.{kind_there, places, written_at}
 use Rattle.fs_board_offers.specs.Offers.{Offer, Offers, kind_cost}
 use Rattle.fs_app_io.specs.declared.status.Status.{Status}
 use Rattle.fs_app_io.specs.declared.status.Status.TheVariants as status

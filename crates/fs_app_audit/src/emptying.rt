@@ -1,7 +1,7 @@
 //! The test in which FENCEs order no memory.
 
 ghost use Rattle.std.specs.Prelude.{◌≡◌, map, IfOk};
-ghost use Rattle.fs_model_in_place.specs.InPlace.{emptied_instr, emptied_code, emptied};
+ghost use Rattle.fs_model_laws.specs.InPlace.{emptied_instr, emptied_code, emptied};
 
 use crate::easing::DEVICES;
 use crate::is_fence;

@@ -10,7 +10,7 @@ ghost use Rattle.fs_board_offers.specs.Offers.{IsCheapest, IsPlacement};
 ghost use Rattle.fs_board_search.specs.Answers.{IsLimitFault};
 ghost use Rattle.fs_litmus.specs.Faults.{IsTestFault};
 ghost use Rattle.fs_litmus.specs.Reads.{Reads};
-ghost use Rattle.fs_model_in_place.specs.InPlace.{emptied};
+ghost use Rattle.fs_model_laws.specs.InPlace.{emptied};
 ghost use Rattle.fs_app_test.specs.SaidVerdicts.{IsForbidden};
 ghost use Rattle.fs_app_audit.specs.InPlace.{offers_in_place};
 

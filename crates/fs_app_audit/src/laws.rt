@@ -6,7 +6,7 @@ ghost use Rattle.fs_kinds.specs.declared.slot.Slot.{Slot};
 ghost use Rattle.fs_kinds.specs.Placement.{kind_at, with_kind};
 ghost use Rattle.fs_model.specs.declared.test.Test.{Test};
 ghost use Rattle.fs_model.specs.Allows.{Allows, no_fences};
-ghost use Rattle.fs_model_in_place.specs.InPlace.{IsFollowed, emptied, followed};
+ghost use Rattle.fs_model_laws.specs.InPlace.{IsFollowed, emptied, followed};
 ghost use Rattle.fs_app_io.specs.declared.status.Status.{Status};
 ghost use Rattle.fs_app_audit.specs.Audit.{IsInPlace};
 

@@ -5,7 +5,7 @@ ghost use Rattle.fs_kinds.specs.Limits.{most_harts, most_instructions, most_numb
 ghost use Rattle.fs_kinds.specs.Kind.{all_kinds};
 ghost use Rattle.fs_kinds.specs.PriceTable.{most_weight};
 ghost use Rattle.fs_kinds.specs.Slot.{is_rising};
-ghost use Rattle.fs_model_in_place.specs.InPlace.{is_place, places, places_in};
+ghost use Rattle.fs_model_laws.specs.InPlace.{is_place, places, places_in};
 ghost use Rattle.fs_app_audit.specs.Standing.{access_after};
 ghost use Rattle.fs_app_audit.specs.InPlace.{offer_in_place, offers_in_place, price_in_place};
 ghost use Rattle.fs_app_audit.specs.InPlace.{weighed, weighed_by, weight_in_place, weight_there, written_cost};

@@ -12,7 +12,7 @@ use Rattle.fs_kinds.specs.PriceTable.{PriceTable}
 use Rattle.fs_model.specs.Slots.{slot_at}
 use Rattle.fs_model.specs.Test.{IsBounded}
 use Rattle.fs_model.specs.declared.test.Test.{Test}
-use Rattle.fs_model_in_place.specs.InPlace.{is_place, places, places_in}
+use Rattle.fs_model_laws.specs.InPlace.{is_place, places, places_in}
 use Rattle.fs_board_offers.specs.Offers.{Offers}
 use Rattle.fs_app_audit.specs.InPlace.{offer_in_place, offers_in_place}
 

@@ -5,7 +5,7 @@ use Rattle.fs_kinds.specs.PriceTable.{PriceTable}
 use Rattle.fs_model.specs.declared.test.Test.{Test}
 use Rattle.fs_model.specs.Test.{IsSame}
 use Rattle.fs_model.specs.Witness.{Witness}
-use Rattle.fs_model_in_place.specs.InPlace.{emptied}
+use Rattle.fs_model_laws.specs.InPlace.{emptied}
 use Rattle.fs_board_offers.specs.Offers as offers
 use Rattle.fs_litmus.specs.Reads.{Reads}
 use Rattle.fs_report.specs.Objects.{json_line}

@@ -3,7 +3,7 @@ use Rattle.std.proofs.Common.{◌≡◌, ℕ, Option, None, Some, false, List, [
 use Rattle.serde_json.specs.Written.{has_float, items_have_float}
 use Rattle.fs_kinds.specs.declared.kind.Kind.{Kind}
 use Rattle.fs_kinds.specs.declared.placement.Entry.{Entry}
-use Rattle.fs_model_in_place.specs.InPlace.{memory_kind}
+use Rattle.fs_model_laws.specs.InPlace.{memory_kind}
 use Rattle.fs_cert_evidence.specs.Texts.{items_of}
 use Rattle.fs_app_test.specs.Report.{number_or_null}
 use Rattle.fs_app_audit.specs.Audit.{Findings}

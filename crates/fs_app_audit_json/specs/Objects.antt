@@ -7,7 +7,7 @@ use Rattle.fs_kinds.specs.Kind.{word}
 use Rattle.fs_kinds.specs.PriceTable.{PriceTable}
 use Rattle.fs_kinds.specs.PriceTable as anew
 use Rattle.fs_kinds.specs.Slot.{place_name}
-use Rattle.fs_model_in_place.specs.InPlace.{memory_kind}
+use Rattle.fs_model_laws.specs.InPlace.{memory_kind}
 use Rattle.fs_board_offers.specs.Offers as offers
 use Rattle.fs_cert_evidence.specs.Texts.{array_of, members_of, number}
 use Rattle.fs_app_test.specs.declared.said.Kind.{Kind as Said}

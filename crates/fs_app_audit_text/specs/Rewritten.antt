@@ -10,7 +10,7 @@ use Rattle.fs_kinds.specs.Placement.{kind_at}
 use Rattle.fs_model.specs.declared.test.Test.{Test}
 use Rattle.fs_model.specs.Fenced.{fence_of}
 use Rattle.fs_model.specs.Slots.{slot_at}
-use Rattle.fs_model_in_place.specs.InPlace.{is_fence}
+use Rattle.fs_model_laws.specs.InPlace.{is_fence}
 use Rattle.fs_app_audit_text.specs.Fences.{names_devices}
 
 -- ---- which FENCEs go

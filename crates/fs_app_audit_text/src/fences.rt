@@ -1,7 +1,7 @@
 //! The FENCEs that order memory, and those that name devices.
 
 ghost use Rattle.std.specs.Prelude.{◌≡◌};
-ghost use Rattle.fs_model_in_place.specs.InPlace.{is_fence, kind_of_sides, memory_kind};
+ghost use Rattle.fs_model_laws.specs.InPlace.{is_fence, kind_of_sides, memory_kind};
 ghost use Rattle.fs_app_audit_text.specs.Fences.{names_devices};
 
 use fs_instr::{Instr, Letters};

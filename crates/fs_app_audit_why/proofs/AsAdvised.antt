@@ -22,10 +22,10 @@ use Rattle.fs_model.specs.Condition.{SpeaksOf, condition_of}
 use Rattle.fs_model.specs.Slots.{slot_at}
 use Rattle.fs_model.specs.Test.{GoesForward, IsBounded, IsSame, IsTest}
 use Rattle.fs_model_laws.proofs.FencedSame.{shows_same}
-use Rattle.fs_model_in_place.specs.InPlace.{devices, emptied, fence_for, followed_code, followed_instr, is_fence, written_at}
-use Rattle.fs_model_in_place.proofs.EmptiedExecutions.{followed_ruled_out}
-use Rattle.fs_model_in_place.proofs.Emptying.{same_of_emptied}
-use Rattle.fs_model_in_place.proofs.FollowedLines.{is_followed}
+use Rattle.fs_model_laws.specs.InPlace.{devices, emptied, fence_for, followed_code, followed_instr, is_fence, written_at}
+use Rattle.fs_model_laws.proofs.EmptiedExecutions.{followed_ruled_out}
+use Rattle.fs_model_laws.proofs.Emptying.{same_of_emptied}
+use Rattle.fs_model_laws.proofs.FollowedLines.{is_followed}
 use Rattle.fs_app_audit.proofs.Weaker.{keeps_no_more}
 use Rattle.fs_app_audit_why.specs.Advised.{as_advised, is_changed, stays}
 use Rattle.fs_app_audit_why.specs.Why.{AreAdvised}

@@ -19,10 +19,10 @@ use Rattle.fs_model_laws.proofs.FencedOperations.{index_numbered}
 use Rattle.fs_model_laws.proofs.FencedSame.{shows_same}
 use Rattle.fs_model_laws.proofs.PlacedPairs.{kind_at_other, kind_at_same, same_slot, subset_at}
 use Rattle.fs_model_laws.proofs.Weakening.{allows-no-less}
-use Rattle.fs_model_in_place.specs.InPlace.{as_written, emptied, fence_for, followed_code, followed_instr, is_fence, kind_there, memory_kind, written_at}
-use Rattle.fs_model_in_place.proofs.EmptiedExecutions.{same_allowed_in_place}
-use Rattle.fs_model_in_place.proofs.FollowedLines.{is_followed}
-use Rattle.fs_model_in_place.proofs.WrittenPlaces.{written_is}
+use Rattle.fs_model_laws.specs.InPlace.{as_written, emptied, fence_for, followed_code, followed_instr, is_fence, kind_there, memory_kind, written_at}
+use Rattle.fs_model_laws.proofs.EmptiedExecutions.{same_allowed_in_place}
+use Rattle.fs_model_laws.proofs.FollowedLines.{is_followed}
+use Rattle.fs_model_laws.proofs.WrittenPlaces.{written_is}
 use Rattle.fs_app_audit.specs.InPlace.{offers_in_place}
 use Rattle.fs_app_audit.proofs.Needed.{each-needed}
 use Rattle.fs_app_audit.proofs.Weaker.{keeps_no_more}

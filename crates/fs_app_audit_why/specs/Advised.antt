@@ -6,7 +6,7 @@ use Rattle.fs_kinds.specs.declared.slot.Slot.{Slot}
 use Rattle.fs_kinds.specs.Kind.{no_stronger}
 use Rattle.fs_kinds.specs.Placement.{kind_at}
 use Rattle.fs_model.specs.declared.test.Test.{Test}
-use Rattle.fs_model_in_place.specs.InPlace.{followed, written_at}
+use Rattle.fs_model_laws.specs.InPlace.{followed, written_at}
 
 -- a FENCE of this kind stays as it is where this is advised
 abbrev pub stays : (own advised : Option Kind) → Bool

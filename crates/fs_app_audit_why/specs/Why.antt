@@ -11,7 +11,7 @@ use Rattle.fs_model.specs.declared.test.Test.{Test}
 use Rattle.fs_model.specs.Allows.{no_fences}
 use Rattle.fs_model.specs.Test.{IsSame}
 use Rattle.fs_model.specs.Witness.{Witness}
-use Rattle.fs_model_in_place.specs.InPlace.{emptied}
+use Rattle.fs_model_laws.specs.InPlace.{emptied}
 use Rattle.fs_board_offers.specs.Offers.{IsCheapest}
 use Rattle.fs_cert_evidence.specs.CandidateFaults.{IsCandidateFault}
 use Rattle.fs_litmus.specs.Lines.{StandIn}

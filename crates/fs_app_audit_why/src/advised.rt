@@ -6,7 +6,7 @@ ghost use Rattle.std.specs.List.{enumerate_from};
 ghost use Rattle.fs_kinds.specs.Limits.{most_harts, most_instructions};
 ghost use Rattle.fs_model.specs.declared.test.Test.{Test as Tests};
 ghost use Rattle.fs_model.specs.Test.{IsBounded, IsSame, IsTest};
-ghost use Rattle.fs_model_in_place.specs.InPlace.{followed_code, followed_instr, written_at};
+ghost use Rattle.fs_model_laws.specs.InPlace.{followed_code, followed_instr, written_at};
 ghost use Rattle.fs_litmus.specs.Faults.{IsTestFault};
 ghost use Rattle.fs_litmus.specs.Reads.{Reads};
 ghost use Rattle.fs_app_audit_why.specs.Advised.{as_advised, is_changed, stays};

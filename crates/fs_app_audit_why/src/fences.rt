@@ -2,7 +2,7 @@
 
 ghost use Rattle.std.specs.Prelude.{◌≡◌};
 ghost use Rattle.fs_model.specs.Fenced.{fence_of};
-ghost use Rattle.fs_model_in_place.specs.InPlace.{fence_for};
+ghost use Rattle.fs_model_laws.specs.InPlace.{fence_for};
 
 use fs_instr::{Instr, Letters};
 use fs_kinds::Kind;

@@ -7,7 +7,7 @@ use Rattle.fs_kinds.specs.declared.slot.Slot.{Slot}
 use Rattle.fs_model.specs.declared.test.Test.{Test}
 use Rattle.fs_model.specs.Slots.{slot_at}
 use Rattle.fs_model.specs.Test.{IsTest}
-use Rattle.fs_model_in_place.specs.InPlace.{devices, followed_code, followed_instr, is_fence}
+use Rattle.fs_model_laws.specs.InPlace.{devices, followed_code, followed_instr, is_fence}
 use Rattle.fs_app_sites.specs.Sites.{Copy}
 use Rattle.fs_app_sites_audit.specs.Copies.{emptied_at, is_copied}
 use Rattle.fs_app_sites_audit.proofs.Alike.{AreAlike, IsAlike, same_test}

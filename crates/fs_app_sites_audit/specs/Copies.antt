@@ -6,7 +6,7 @@ use Rattle.fs_kinds.specs.declared.fault.Fault.{Fault}
 use Rattle.fs_kinds.specs.declared.slot.Slot.{Slot}
 use Rattle.fs_kinds.specs.Slot.{is_same_slot}
 use Rattle.fs_model.specs.declared.test.Test.{Test}
-use Rattle.fs_model_in_place.specs.InPlace.{followed, written_at}
+use Rattle.fs_model_laws.specs.InPlace.{followed, written_at}
 use Rattle.fs_litmus.specs.Lines.{StandIn}
 use Rattle.fs_litmus.specs.Reads.{Reads}
 use Rattle.fs_litmus_sites.specs.SiteLabels.{SiteLabel}

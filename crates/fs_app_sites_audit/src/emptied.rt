@@ -4,7 +4,7 @@ ghost use Rattle.std.specs.Prelude.{◌≡◌, ◌≤◌, [], All, IfOk, length,
 ghost use Rattle.std.specs.List.{enumerate_from};
 ghost use Rattle.fs_kinds.specs.Limits.{most_harts, most_instructions};
 ghost use Rattle.fs_model.specs.Test.{IsBounded, IsTest};
-ghost use Rattle.fs_model_in_place.specs.InPlace.{followed_code, followed_instr};
+ghost use Rattle.fs_model_laws.specs.InPlace.{followed_code, followed_instr};
 ghost use Rattle.fs_app_sites.specs.Sites.{copy_value};
 ghost use Rattle.fs_app_sites_audit.specs.Copies.{emptied_at, is_copied};
 

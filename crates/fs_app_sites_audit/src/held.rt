@@ -7,7 +7,7 @@ ghost use Rattle.fs_kinds.specs.declared.fault.Fault.TheVariants.{Memory};
 ghost use Rattle.fs_litmus_sites.specs.SiteLabels.{all_of};
 ghost use Rattle.fs_litmus_sites.specs.Sited.{IsSiteFault};
 ghost use Rattle.fs_model.specs.Test.{IsTest};
-ghost use Rattle.fs_model_in_place.specs.InPlace.{written_at};
+ghost use Rattle.fs_model_laws.specs.InPlace.{written_at};
 ghost use Rattle.fs_app_sites.specs.Sites.{IsFileFault, IsSound, copy_value};
 ghost use Rattle.fs_app_sites_audit.specs.Copies.{AreHeld, Holds, IsFilesFault, IsHeld, IsWritten, LabelsStandIn};
 ghost use Rattle.fs_app_sites_audit.specs.Copies.{emptied_at, line_at, written_of};

@@ -22,3 +22,11 @@ pub mod Places
 pub mod Ranked
 pub mod Ranking
 pub mod Weakening
+pub mod Emptying
+pub mod EmptiedRuns
+pub mod EmptiedOperations
+pub mod EmptiedDepends
+pub mod WrittenPlaces
+pub mod EmptiedFences
+pub mod EmptiedExecutions
+pub mod FollowedLines

@@ -3,3 +3,4 @@ pub mod Bounds
 pub mod Fenced
 pub mod Letters
 pub mod Strength
+pub mod InPlace

@@ -4,6 +4,7 @@
 
 mod answers;
 mod fenced;
+mod in_place;
 mod joined;
 mod order;
 mod strength;
@@ -12,6 +13,7 @@ pub use answers::{cost_and_order_decide, cycles_are_short, one_witness_refutes_a
 pub use fenced::{
     fenced_test_means_placement, fences_keep_runs, no_entries_no_fences, same_tests_show_alike,
 };
+pub use in_place::{followed_lines_rule_out, written_means_placement};
 pub use joined::{
     model_means_no_placement, rule_4_by_letters, rule_4_with_placements, solve_means,
 };

@@ -5,7 +5,7 @@ use Rattle.fs_model.specs.declared.test.Test.{Test}
 use Rattle.fs_model.specs.Test.{IsSame}
 use Rattle.fs_board_offers.specs.Offers.{Offers, IsCheapest}
 use Rattle.fs_litmus.specs.Reads.{Reads}
-use Rattle.fs_model_in_place.specs.InPlace.{emptied}
+use Rattle.fs_model_laws.specs.InPlace.{emptied}
 use Rattle.fs_app_place_order.proofs.Faults.{IfErr-handed}
 use Rattle.fs_app_test.specs.declared.said.Kind.TheVariants.{Forbidden}
 use Rattle.fs_app_test.specs.SaidVerdicts.{IsForbidden}

@@ -1,5 +1,5 @@
 use Rattle.std.proofs.Common.{◌≡◌, map, take}
-use Rattle.fs_model_in_place.specs.InPlace.{emptied_instr}
+use Rattle.fs_model_laws.specs.InPlace.{emptied_instr}
 use Rattle.fs_app_audit.proofs.emptying.emptied_code.Given as goal
 
 -- the instructions so far

@@ -1,6 +1,6 @@
 use Rattle.std.proofs.Common.{◌≡◌, ◌∷◌, [], ◌∙◌, arith, ap, map, take, get_or}
 use Rattle.std.proofs.lemmas.List.{take_more, map-append}
-use Rattle.fs_model_in_place.specs.InPlace.{emptied_code}
+use Rattle.fs_model_laws.specs.InPlace.{emptied_code}
 use Rattle.fs_app_audit.proofs.emptying.emptied_codes.Goals as goal
 
 pub loop-code-preserved : goal.loop-code-preserved

@@ -1,7 +1,7 @@
 use Rattle.std.proofs.Common.{◌∙◌, All, sym, subst}
 use Rattle.fs_model.specs.declared.test.Test.{Test}
 use Rattle.fs_model.specs.Test.{IsBounded, IsSame, IsStart}
-use Rattle.fs_model_in_place.specs.InPlace.{emptied}
+use Rattle.fs_model_laws.specs.InPlace.{emptied}
 use Rattle.fs_app_audit.proofs.Bare.{bounded_emptied}
 use Rattle.fs_app_audit.proofs.Purposes.{same_emptied}
 use Rattle.fs_app_audit.proofs.in_place.read_emptied.Goals as goal

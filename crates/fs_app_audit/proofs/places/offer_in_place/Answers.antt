@@ -1,5 +1,5 @@
 use Rattle.std.proofs.Common.{◌∙◌, [], ap, slice_index_or}
-use Rattle.fs_model_in_place.specs.InPlace.{kind_there}
+use Rattle.fs_model_laws.specs.InPlace.{kind_there}
 use Rattle.fs_app_audit.specs.InPlace.{weight_there}
 use Rattle.fs_app_audit.proofs.Offered.{offer_same}
 use Rattle.fs_app_audit.proofs.places.offer_in_place.Goals as goal

@@ -1,8 +1,8 @@
 use Rattle.std.proofs.Common.{◌++◌, ◌∙◌, arith, ap, flat_map}
 use Rattle.fs_kinds.specs.Slot.{is_rising}
 use Rattle.fs_model.proofs.Numbered.{numbered_end, numbered_flat}
-use Rattle.fs_model_in_place.specs.InPlace.{places_in}
-use Rattle.fs_model_in_place.proofs.WrittenPlaces.{rising-places}
+use Rattle.fs_model_laws.specs.InPlace.{places_in}
+use Rattle.fs_model_laws.proofs.WrittenPlaces.{rising-places}
 use Rattle.fs_app_audit.proofs.places.places.Goals as goal
 
 pub loop-hart-preserved : goal.loop-hart-preserved

@@ -1,6 +1,6 @@
 use Rattle.std.proofs.Common.{◌≡◌, flat_map, take}
 use Rattle.std.specs.List.{enumerate_from}
-use Rattle.fs_model_in_place.specs.InPlace.{places_in}
+use Rattle.fs_model_laws.specs.InPlace.{places_in}
 use Rattle.fs_app_audit.proofs.places.places.Given as goal
 
 -- the places so far

@@ -1,6 +1,6 @@
 use Rattle.std.proofs.Common.{map, ap, ◌∙◌, arith}
 use Rattle.fs_model.proofs.Numbered.{numbered_push_plain, numbered_end}
-use Rattle.fs_model_in_place.specs.InPlace.{followed_instr}
+use Rattle.fs_model_laws.specs.InPlace.{followed_instr}
 use Rattle.fs_app_audit_why.specs.Advised.{is_changed}
 use Rattle.fs_app_audit_why.proofs.advised.advised_code.Goals as goal
 

@@ -1,7 +1,7 @@
 use Rattle.std.proofs.Common.{map, ap, ◌∙◌, arith}
 use Rattle.std.specs.List.{enumerate_from}
 use Rattle.fs_model.proofs.Numbered.{numbered_push_plain, numbered_end}
-use Rattle.fs_model_in_place.specs.InPlace.{followed_code}
+use Rattle.fs_model_laws.specs.InPlace.{followed_code}
 use Rattle.fs_app_audit_why.specs.Advised.{is_changed}
 use Rattle.fs_app_audit_why.proofs.advised.advised_codes.Goals as goal
 

@@ -1,6 +1,6 @@
 use Rattle.std.proofs.Common.{◌≡◌, take, map}
 use Rattle.std.specs.List.{enumerate_from}
-use Rattle.fs_model_in_place.specs.InPlace.{followed_code}
+use Rattle.fs_model_laws.specs.InPlace.{followed_code}
 use Rattle.fs_app_audit_why.specs.Advised.{is_changed}
 use Rattle.fs_app_audit_why.proofs.advised.advised_codes.Given as goal
 

@@ -2,7 +2,7 @@ use Rattle.std.proofs.Common.{List, [], ap, map, subst, sym, ◌∙◌}
 use Rattle.std.specs.List.{enumerate_from}
 use Rattle.fs_instr.specs.declared.instr.Instr.{Instr}
 use Rattle.fs_model.specs.Test.{IsTest}
-use Rattle.fs_model_in_place.specs.InPlace.{followed_code}
+use Rattle.fs_model_laws.specs.InPlace.{followed_code}
 use Rattle.fs_app_sites.specs.Sites.{copy_value}
 use Rattle.fs_app_sites_audit.specs.Copies.{is_copied}
 use Rattle.fs_app_sites_audit.proofs.Without.{emptied_test}

@@ -1,6 +1,6 @@
 use Rattle.std.proofs.Common.{◌≡◌, [], map, take}
 use Rattle.std.specs.List.{enumerate_from}
-use Rattle.fs_model_in_place.specs.InPlace.{followed_instr}
+use Rattle.fs_model_laws.specs.InPlace.{followed_instr}
 use Rattle.fs_app_sites.specs.Sites.{copy_value}
 use Rattle.fs_app_sites_audit.specs.Copies.{is_copied}
 use Rattle.fs_app_sites_audit.proofs.emptied.emptied_code.Given as goal

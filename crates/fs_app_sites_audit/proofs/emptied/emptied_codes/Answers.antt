@@ -1,6 +1,6 @@
 use Rattle.std.proofs.Common.{◌∙◌, [], arith, ap, map}
 use Rattle.fs_model.proofs.Numbered.{numbered_end}
-use Rattle.fs_model_in_place.specs.InPlace.{followed_code}
+use Rattle.fs_model_laws.specs.InPlace.{followed_code}
 use Rattle.fs_app_sites.specs.Sites.{copy_value}
 use Rattle.fs_app_sites_audit.specs.Copies.{is_copied}
 use Rattle.fs_app_sites_audit.proofs.Pushed.{pushed_numbered}

@@ -8,8 +8,8 @@ use Rattle.fs_model.specs.declared.hart.Hart.{Hart}
 use Rattle.fs_model.specs.declared.step.Step.{Step}
 use Rattle.fs_model.specs.Trace.{Accesses, AreSteps, Runs, after_step, hart_after, start_with}
 use Rattle.fs_model_laws.proofs.Places.{at-map}
-use Rattle.fs_model_in_place.specs.InPlace.{emptied_instr, emptied_code}
-use Rattle.fs_model_in_place.proofs.Emptying.{emptied_step, step_passed, accesses_there, accesses_back}
+use Rattle.fs_model_laws.specs.InPlace.{emptied_instr, emptied_code}
+use Rattle.fs_model_laws.proofs.Emptying.{emptied_step, step_passed, accesses_there, accesses_back}
 
 pub end_there : (h : Hart) (ss : List Step) → hart_after h (map emptied_step ss) ≡ hart_after h ss
 end_there h [] = refl

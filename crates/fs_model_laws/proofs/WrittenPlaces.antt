@@ -14,7 +14,7 @@ use Rattle.fs_kinds.specs.Placement.{kind_at, slots_of}
 use Rattle.fs_model.specs.declared.test.Test.{Test}
 use Rattle.fs_model.specs.Slots.{slot_at}
 use Rattle.fs_model_laws.proofs.PlacedPairs.{same_slot, itself}
-use Rattle.fs_model_in_place.specs.InPlace.{kind_there, is_place, places_in, places, written_at, as_written, memory_kind}
+use Rattle.fs_model_laws.specs.InPlace.{kind_there, is_place, places_in, places, written_at, as_written, memory_kind}
 
 -- ---- a placement with an entry for each of these slots
 

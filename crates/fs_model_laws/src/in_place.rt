@@ -6,7 +6,7 @@ ghost use Rattle.fs_kinds.specs.declared.slot.Slot.{Slot};
 ghost use Rattle.fs_model.specs.declared.test.Test.{Test};
 ghost use Rattle.fs_model.specs.Allows.{Allows, no_fences};
 ghost use Rattle.fs_model_laws.specs.Strength.{KeepsNoMore};
-ghost use Rattle.fs_model_in_place.specs.InPlace.{IsFollowed, as_written, emptied, followed};
+ghost use Rattle.fs_model_laws.specs.InPlace.{IsFollowed, as_written, emptied, followed};
 
 /// A law: with the FENCEs as a placement, each in its own place, the test in which they order no memory allows its
 /// outcome exactly where the test does as it is written.

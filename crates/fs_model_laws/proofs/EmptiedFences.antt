@@ -29,12 +29,12 @@ use Rattle.fs_model.proofs.WhichOperation.{of_hart}
 use Rattle.fs_model_laws.proofs.FencedAlike.{Alike}
 use Rattle.fs_model_laws.proofs.FencedDepends.{none_passes}
 use Rattle.fs_model_laws.proofs.FencedSpread.{any_same, or_false}
-use Rattle.fs_model_in_place.specs.InPlace.{memory_kind, as_written}
-use Rattle.fs_model_in_place.proofs.Emptying.{emptied_step, same_of_emptied, by_kind, emptied_orders}
-use Rattle.fs_model_in_place.proofs.EmptiedRuns.{IsOfCode, of_code}
-use Rattle.fs_model_in_place.proofs.EmptiedOperations.{emptied_operation, emptied_pre, accesses_emptied, operation_emptied, place_same, classes_same, hart_same, order_same, run_same}
-use Rattle.fs_model_in_place.proofs.EmptiedDepends.{instr_there, address_there, data_there, control_there, address_between_there, paired_there}
-use Rattle.fs_model_in_place.proofs.WrittenPlaces.{written_is}
+use Rattle.fs_model_laws.specs.InPlace.{memory_kind, as_written}
+use Rattle.fs_model_laws.proofs.Emptying.{emptied_step, same_of_emptied, by_kind, emptied_orders}
+use Rattle.fs_model_laws.proofs.EmptiedRuns.{IsOfCode, of_code}
+use Rattle.fs_model_laws.proofs.EmptiedOperations.{emptied_operation, emptied_pre, accesses_emptied, operation_emptied, place_same, classes_same, hart_same, order_same, run_same}
+use Rattle.fs_model_laws.proofs.EmptiedDepends.{instr_there, address_there, data_there, control_there, address_between_there, paired_there}
+use Rattle.fs_model_laws.proofs.WrittenPlaces.{written_is}
 
 -- ---- one number more
 

@@ -8,8 +8,8 @@ use Rattle.fs_model.specs.declared.operation.Operation.{Operation}
 use Rattle.fs_model.specs.declared.step.Step.{Step}
 use Rattle.fs_model.specs.Operations.{PreExecution, access_of, accesses_of, accesses, initial_store, operations, operation, nothing, place, steps_of, trace_of, classes, po, precedes}
 use Rattle.fs_model_laws.proofs.FencedOperations.{index_mapped}
-use Rattle.fs_model_in_place.specs.InPlace.{emptied_instr}
-use Rattle.fs_model_in_place.proofs.Emptying.{emptied_step}
+use Rattle.fs_model_laws.specs.InPlace.{emptied_instr}
+use Rattle.fs_model_laws.proofs.Emptying.{emptied_step}
 
 abbrev pub emptied_operation : Operation → Operation
 emptied_operation o =

@@ -12,7 +12,7 @@ use Rattle.fs_model.specs.declared.step.Step.{Step}
 use Rattle.fs_model.specs.Execute.{address_in, stored_in, next_after, executed}
 use Rattle.fs_model.specs.Trace.{IsAtLocation, StoresItsWord, Succeeds, Accesses, AccessesNothing, paired_after, after_step}
 use Rattle.fs_model.specs.Fences.{instr_orders, kind_orders}
-use Rattle.fs_model_in_place.specs.InPlace.{kind_of_sides, memory_kind, is_fence, devices, emptied_instr}
+use Rattle.fs_model_laws.specs.InPlace.{kind_of_sides, memory_kind, is_fence, devices, emptied_instr}
 
 -- the step of the emptied code
 abbrev pub emptied_step : Step → Step

@@ -15,8 +15,8 @@ use Rattle.fs_model.specs.Fenced.{fence_of}
 use Rattle.fs_model.specs.Slots.{slot_at}
 use Rattle.fs_model_laws.specs.Strength.{KeepsNoMore}
 use Rattle.fs_model_laws.proofs.FencedOperations.{index_numbered}
-use Rattle.fs_model_in_place.specs.InPlace.{memory_kind, is_fence, devices, emptied_instr, emptied_code, kind_there, written_at, as_written, IsFollowed, fence_for, followed_instr, followed_code, followed}
-use Rattle.fs_model_in_place.proofs.WrittenPlaces.{written_is}
+use Rattle.fs_model_laws.specs.InPlace.{memory_kind, is_fence, devices, emptied_instr, emptied_code, kind_there, written_at, as_written, IsFollowed, fence_for, followed_instr, followed_code, followed}
+use Rattle.fs_model_laws.proofs.WrittenPlaces.{written_is}
 
 kind_of_fence : (kind : Kind) → memory_kind (fence_of kind) ≡ Some kind
 kind_of_fence RR = refl

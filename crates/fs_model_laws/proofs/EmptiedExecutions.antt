@@ -18,11 +18,11 @@ use Rattle.fs_model_laws.proofs.FencedAlike.{Alike, alike_back, axioms_there, fi
 use Rattle.fs_model_laws.proofs.FencedLaw.{same_allowed}
 use Rattle.fs_model_laws.proofs.FencedOperations.{index_mapped}
 use Rattle.fs_model_laws.proofs.Weakening.{allows-no-less}
-use Rattle.fs_model_in_place.specs.InPlace.{IsFollowed, as_written, emptied, emptied_code}
-use Rattle.fs_model_in_place.proofs.Emptying.{emptied_step}
-use Rattle.fs_model_in_place.proofs.EmptiedRuns.{end_there, run_there, run_back}
-use Rattle.fs_model_in_place.proofs.EmptiedOperations.{emptied_traces, trace_emptied}
-use Rattle.fs_model_in_place.proofs.EmptiedFences.{AreRuns, emptied_alike}
+use Rattle.fs_model_laws.specs.InPlace.{IsFollowed, as_written, emptied, emptied_code}
+use Rattle.fs_model_laws.proofs.Emptying.{emptied_step}
+use Rattle.fs_model_laws.proofs.EmptiedRuns.{end_there, run_there, run_back}
+use Rattle.fs_model_laws.proofs.EmptiedOperations.{emptied_traces, trace_emptied}
+use Rattle.fs_model_laws.proofs.EmptiedFences.{AreRuns, emptied_alike}
 
 abbrev emptied_execution : Execution → Execution
 emptied_execution e = record { traces = emptied_traces e.traces; order = e.order }

@@ -11,8 +11,8 @@ use Rattle.fs_model.specs.Operations.{instr_at, are_paired}
 use Rattle.fs_model.specs.Dependencies.{writes, depends_within, depends, address_depends, data_depends, control_depends}
 use Rattle.fs_model_laws.proofs.FencedDepends.{and_same, or_same}
 use Rattle.fs_model_laws.proofs.FencedSpread.{any_same}
-use Rattle.fs_model_in_place.specs.InPlace.{emptied_instr}
-use Rattle.fs_model_in_place.proofs.Emptying.{emptied_step, same_of_emptied}
+use Rattle.fs_model_laws.specs.InPlace.{emptied_instr}
+use Rattle.fs_model_laws.proofs.Emptying.{emptied_step, same_of_emptied}
 
 instr_of : (o : Option Step) → unwrap_or (option_map (λ s. s.instr) (option_map emptied_step o)) nop
     ≡ emptied_instr (unwrap_or (option_map (λ s. s.instr) o) nop)

@@ -1,5 +1,0 @@
-use Rattle.fs_model_in_place.proofs.EmptiedExecutions.{same_allowed_in_place}
-use Rattle.fs_model_in_place.proofs.laws.written_means_placement.Goals as goal
-
-pub returns : goal.returns
-returns c = same_allowed_in_place
