@@ -27,11 +27,12 @@ use std::sync::Arc;
 /// isn't known.
 fn newest_decision(part: &Part, slot: Option<Slot>) -> Option<Option<Kind>> {
     let slot = slot?;
-    let decision = part
-        .as_slice()
-        .iter()
-        .find(|decision| decision.slot == slot)?;
-    decision.decided
+    for decision in part.as_slice() {
+        if decision.slot == slot {
+            return decision.decided;
+        }
+    }
+    None
 }
 
 /// Is the least placement worth judging? Where none was decided last, it is the parent's, and allowed: that is known by

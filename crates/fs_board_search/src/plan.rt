@@ -7,7 +7,7 @@ ghost use Rattle.fs_kinds.specs.Placement.{slots_of};
 ghost use Rattle.fs_board_offers.specs.Parts.{slots_in_part};
 
 use crate::codes::{Codes, bits_of_kind};
-use crate::store::{Limit, Store, Sum, cost};
+use crate::store::{Limit, Store, Sum, Unbroken, cost};
 use fs_board::{Decision, Part};
 use fs_board_offers::{OPTIONS, Offers};
 use fs_kinds::{Entry, Kind, List, Placement, Slot};
@@ -87,10 +87,9 @@ impl Walk {
         }
     }
 
-    /// What is known of the placements that have what is decided. At a witness that is breakable at the fewest slots it
-    /// goes on, with the last of them.
+    /// What is known of the placements that have what is decided.
     fn outlook(&self, planner: Planner<'_>) -> Result<Outlook, AllocError> {
-        let mut sum = Sum::of(cost(planner.offers, &self.floor));
+        let sum = Sum::of(cost(planner.offers, &self.floor));
         if sum.passes(&self.limit) {
             return Ok(Outlook::Closed);
         }
@@ -98,22 +97,10 @@ impl Walk {
         let unbroken = planner
             .store
             .unbroken(planner.alloc, &codes, &self.decisions)?;
-        for found in &unbroken {
-            if sum.is_apart(found) {
-                sum.add(found);
-                if sum.passes(&self.limit) {
-                    return Ok(Outlook::Closed);
-                }
-            }
-        }
-        let Some(found) = unbroken.first() else {
-            return Ok(Outlook::Breaks);
-        };
-        let Some(slot) = found.last_place() else {
+        if passes_with(sum, &self.limit, &unbroken) {
             return Ok(Outlook::Closed);
-        };
-        let left = planner.worth_trying(slot, planner.store.lacks(&unbroken, slot));
-        Ok(Outlook::Open(Level { slot, left }))
+        }
+        Ok(planner.outlook_over(&unbroken))
     }
 
     /// Decides the newest slot that has an option left in the next way. False where there is none: all placements were
@@ -135,9 +122,25 @@ impl Walk {
         false
     }
 
+    /// Looks at the placements that have what is decided. The least of them, where it is within the limit and breaks
+    /// all witnesses: then the others must cost less.
+    fn look(&mut self, planner: Planner<'_>) -> Result<Option<Vec<Entry>>, AllocError> {
+        match self.outlook(planner)? {
+            Outlook::Closed => Ok(None),
+            Outlook::Breaks => {
+                self.limit = Limit::below(cost(planner.offers, &self.floor));
+                Ok(Some(self.floor.clone()?))
+            }
+            Outlook::Open(level) => {
+                self.levels.push(level)?;
+                Ok(None)
+            }
+        }
+    }
+
     /// Finds the cheapest placement within the limit that breaks all witnesses, or any one where the first will do.
     fn run(
-        mut self,
+        &mut self,
         planner: Planner<'_>,
         first_will_do: bool,
         steps: &mut usize,
@@ -148,16 +151,11 @@ impl Walk {
                 return Ok(Walked::GaveUp);
             }
             *steps = steps.saturating_sub(1);
-            match self.outlook(planner)? {
-                Outlook::Closed => {}
-                Outlook::Breaks => {
-                    best = Some(self.floor.clone()?);
-                    if first_will_do {
-                        return Ok(Walked::Ended(best));
-                    }
-                    self.limit = Limit::below(cost(planner.offers, &self.floor));
+            if let Some(found) = self.look(planner)? {
+                best = Some(found);
+                if first_will_do {
+                    return Ok(Walked::Ended(best));
                 }
-                Outlook::Open(level) => self.levels.push(level)?,
             }
             if !self.go_on(planner.options) {
                 return Ok(Walked::Ended(best));
@@ -165,6 +163,20 @@ impl Walk {
         }
         Ok(Walked::GaveUp)
     }
+}
+
+/// Is so much the limit, with the least breaks of those of these witnesses that share no breakable slot?
+fn passes_with(sum: Sum, limit: &Limit, unbroken: &[Unbroken]) -> bool {
+    let mut sum = sum;
+    for found in unbroken {
+        if sum.is_apart(found) {
+            sum.add(found);
+            if sum.passes(limit) {
+                return true;
+            }
+        }
+    }
+    false
 }
 
 /// What may stand at a slot: none, and the kinds that are offered there, the cheapest first.
@@ -218,6 +230,16 @@ fn broken_by(option: Option<Kind>, sets: u16) -> u16 {
     broken
 }
 
+/// Does one of the first so many options break all of these sets of pairs?
+fn is_spared(options: &[Option<Kind>], first: usize, broken: u16, sets: u16) -> bool {
+    for number in 0..first.min(options.len()) {
+        if broken & !broken_by(options[number], sets) == 0 {
+            return true;
+        }
+    }
+    false
+}
+
 /// Nothing is decided at these slots.
 fn all_open(alloc: Global, slots: &[Decision]) -> Result<Vec<Decision>, AllocError> {
     let mut open = Vec::new(alloc);
@@ -239,16 +261,25 @@ impl Planner<'_> {
         let mut bit: u32 = 1;
         for (number, option) in options.iter().enumerate() {
             let broken = broken_by(*option, sets);
-            let is_spared = options
-                .iter()
-                .take(number)
-                .any(|before| broken & !broken_by(*before, sets) == 0);
-            if !is_spared {
+            if !is_spared(options.as_slice(), number, broken, sets) {
                 worth |= bit;
             }
             bit = bit.wrapping_shl(1);
         }
         worth
+    }
+
+    /// The outlook where these witnesses aren't broken yet, and may be within the limit: the first of them, which is
+    /// breakable at the fewest slots, is broken at the last of these.
+    fn outlook_over(self, unbroken: &[Unbroken]) -> Outlook {
+        let Some(found) = unbroken.first() else {
+            return Outlook::Breaks;
+        };
+        let Some(slot) = found.last_place() else {
+            return Outlook::Closed;
+        };
+        let left = self.worth_trying(slot, self.store.lacks(unbroken, slot));
+        Outlook::Open(Level { slot, left })
     }
 
     /// The slots before the one of this number are decided as the placement has them, and that one so.
@@ -272,21 +303,30 @@ impl Planner<'_> {
     }
 
     /// A placement that costs no more than this one and breaks all witnesses, is the same at the slots before the one
-    /// of this number, and has an earlier kind there, the earliest that there can be.
-    fn earlier(
+    /// of this number, and has this kind there.
+    fn with_kind(
         self,
         placement: &[Entry],
         number: usize,
+        kind: Option<Kind>,
         steps: &mut usize,
     ) -> Result<Walked, AllocError> {
         let limit = Limit::up_to(cost(self.offers, placement));
-        let Some(known) = placement.get(number) else {
-            return Ok(Walked::Ended(None));
-        };
-        let before = kinds_before(self.alloc, self.offers, *known)?;
-        for (_, kind) in &before {
-            let decisions = self.decided(placement, number, *kind)?;
-            let walked = Walk::new(self.alloc, decisions, limit)?.run(self, true, steps)?;
+        let decisions = self.decided(placement, number, kind)?;
+        let mut walk = Walk::new(self.alloc, decisions, limit)?;
+        walk.run(self, true, steps)
+    }
+
+    /// The same with the first of these kinds for which there is one.
+    fn with_first(
+        self,
+        placement: &[Entry],
+        number: usize,
+        kinds: &[(usize, Option<Kind>)],
+        steps: &mut usize,
+    ) -> Result<Walked, AllocError> {
+        for (_, kind) in kinds {
+            let walked = self.with_kind(placement, number, *kind, steps)?;
             if !matches!(walked, Walked::Ended(None)) {
                 return Ok(walked);
             }
@@ -294,11 +334,27 @@ impl Planner<'_> {
         Ok(Walked::Ended(None))
     }
 
+    /// A placement that costs no more than this one and breaks all witnesses, is the same at the slots before the one
+    /// of this number, and has an earlier kind there, the earliest that there can be.
+    fn earlier(
+        self,
+        placement: &[Entry],
+        number: usize,
+        steps: &mut usize,
+    ) -> Result<Walked, AllocError> {
+        let Some(known) = placement.get(number) else {
+            return Ok(Walked::Ended(None));
+        };
+        let before = kinds_before(self.alloc, self.offers, *known)?;
+        self.with_first(placement, number, &before, steps)
+    }
+
     /// The best placement at these slots: of those that cost the least the first. None where no placement breaks all
     /// witnesses, and where this isn't found out in so many steps.
     fn best(self, slots: &[Decision], steps: &mut usize) -> Result<Option<Vec<Entry>>, AllocError> {
         let open = all_open(self.alloc, slots)?;
-        let cheapest = Walk::new(self.alloc, open, Limit::never())?.run(self, false, steps)?;
+        let mut walk = Walk::new(self.alloc, open, Limit::never())?;
+        let cheapest = walk.run(self, false, steps)?;
         let Walked::Ended(Some(mut best)) = cheapest else {
             return Ok(None);
         };

@@ -3,6 +3,7 @@
 ghost use Rattle.std.specs.Prelude.{◌≡◌, ◌≢◌, List, IfOk, IfErr, IfSome, IfNone, IsOkUnless, is_none, map, true, false};
 ghost use Rattle.std.specs.List.{list_any};
 ghost use Rattle.std.specs.Arc.{arc_value};
+ghost use Rattle.fs_kinds.specs.Placement.{slots_of};
 ghost use Rattle.fs_kinds.specs.declared.slot.Slot.{Slot as SlotValue};
 ghost use Rattle.fs_model.specs.declared.test.Test.{Test};
 ghost use Rattle.fs_cert_evidence.specs.CandidateFaults.{IsCandidateFault};
@@ -164,9 +165,16 @@ fn number_of(offers: &Offers, slot: Slot, kind: Option<Kind>) -> usize {
 
 /// Has the placement all that is decided?
 fn is_under(part: &Part, placement: &Placement) -> bool {
-    part.as_slice().iter().zip(placement.as_slice()).all(|(decision, entry)| decision
-        .decided
-        .is_none_or(|kind| kind == entry.kind))
+    let (decisions, entries) = (part.as_slice(), placement.as_slice());
+    for number in 0..decisions.len().min(entries.len()) {
+        let (decision, entry) = (&decisions[number], &entries[number]);
+        if let Some(kind) = decision.decided {
+            if kind != entry.kind {
+                return false;
+            }
+        }
+    }
+    true
 }
 
 /// The placement posted, shared.
@@ -265,20 +273,56 @@ impl Scout {
         ensures value { self.new ≡ self.old }
         ensures err { IfErr result (λ f. f ≢ Fault.Memory → IsCandidateFault self.old.test f) }
     {
+        let Some(placement) = self.cheapest(alloc, part)? else {
+            return Ok(true);
+        };
+        let found = self.judge_by(alloc, part, &placement, team)?;
+        let Some(forbidden) = found else {
+            return Ok(false);
+        };
+        self.plan_on(Arc::new(alloc, forbidden)?);
+        Ok(true)
+    }
+
+    /// The cheapest placement that breaks all stored witnesses, where there is one and the steps are enough.
+    fn cheapest(&mut self, alloc: Global, part: &Part) -> Result<Option<Placement>, AllocError>
+        ensures value { self.new ≡ self.old }
+        ensures slots { IfOk result (λ found. IfSome found (λ p. slots_of p ≡ slots_in_part part.now)) }
+    {
         let offers = self.question.offers();
         let mut steps = self.steps;
         let cheapest = cheapest_breaking(alloc, &self.store, offers, part, &mut steps)?;
         self.steps = steps;
-        let Some(placement) = cheapest else {
-            return Ok(true);
-        };
-        let verdict = self.judge.verdict_by(alloc, &placement, &[], team)?;
+        Ok(cheapest)
+    }
+
+    /// What forbids the outcome, where the placement does; else the verdict's witness is stored. The team may hunt for
+    /// the verdict.
+    fn judge_by<T: Team>(
+        &mut self,
+        alloc: Global,
+        part: &Part,
+        placement: &Placement,
+        team: &T,
+    ) -> Result<Option<Forbidden>, Fault>
+        requires team { T.may_hunt }
+        requires slots { slots_of placement.now ≡ slots self.old.offers }
+        ensures value { self.new ≡ self.old }
+        ensures ok { IfOk result (λ found. IfSome found (IsPostable self.old.test)) }
+        ensures err { IfErr result (λ f. f ≢ Fault.Memory → IsCandidateFault self.old.test f) }
+    {
+        let verdict = self.judge.verdict_by(alloc, placement, &[], team)?;
+        let offers = self.question.offers();
         let found = forbidden_or_stored(alloc, offers, &mut self.store, part, verdict)?;
-        let Some(forbidden) = found else {
-            return Ok(false);
-        };
-        self.planned = Some(Arc::new(alloc, forbidden)?);
-        Ok(true)
+        Ok(found)
+    }
+
+    /// Takes this placement as the planned one.
+    fn plan_on(&mut self, forbidden: Arc<Forbidden>)
+        requires { IsPostable self.old.test (arc_value forbidden) }
+        ensures { self.new ≡ self.old }
+    {
+        self.planned = Some(forbidden);
     }
 
     /// The planned placement, where it is the least one of the part.
@@ -434,6 +478,16 @@ impl Scout {
         if is_floor_allowed(alloc, &self.store, &taken.part)? {
             return Ok(None);
         }
+        self.judged_anew(alloc, taken)
+    }
+
+    /// The same by one more verdict.
+    fn judged_anew(&mut self, alloc: Global, taken: &Taken) -> Result<Option<Event>, Fault>
+        requires { slots_in_part (arc_value taken.now.part) ≡ slots self.old.offers }
+        ensures value { self.new ≡ self.old }
+        ensures made { IfOk result (λ found. IfSome found (IsTry self.old)) }
+        ensures err { IfErr result (λ f. f ≢ Fault.Memory → IsCandidateFault self.old.test f) }
+    {
         self.verdicts = self.verdicts.saturating_add(1);
         let found = judge_floor(
             alloc,

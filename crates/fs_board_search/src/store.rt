@@ -62,6 +62,29 @@ pub(crate) struct Unbroken {
 }
 
 impl Unbroken {
+    /// The witness of this number, which costs so much to break at each slot, at a node of these decisions.
+    fn of(number: usize, breaks: &[u64], decisions: &[Decision]) -> Unbroken {
+        let mut slots: u32 = 0;
+        let mut least = NEVER;
+        let mut places: u64 = 0;
+        let mut place: u64 = 1;
+        for slot in 0..decisions.len().min(breaks.len()) {
+            let (decision, cost) = (&decisions[slot], breaks[slot]);
+            if decision.decided.is_none() && cost != NEVER {
+                slots = slots.saturating_add(1);
+                least = least.min(cost);
+                places |= place;
+            }
+            place = place.wrapping_shl(1);
+        }
+        Unbroken {
+            slots,
+            lack: NEVER.saturating_sub(least),
+            number,
+            places,
+        }
+    }
+
     /// The number of the last slot that is breakable. None where there is none.
     pub(crate) fn last_place(&self) -> Option<usize> {
         last_of(self.places)
@@ -92,9 +115,30 @@ fn fenced_places(placement: &[Entry]) -> u64 {
     places
 }
 
+/// The number of the slot that `Store::slot_to_split` takes, where these are the witnesses in its order, and the best
+/// placement has fences at these places. Above all numbers of slots where there is none.
+fn place_to_split(unbroken: &[Unbroken], fenced: u64) -> usize {
+    let mut first = usize::MAX;
+    let Some(least) = unbroken.first() else {
+        return first;
+    };
+    for found in unbroken {
+        if found.slots != least.slots {
+            break;
+        }
+        if let Some(place) = found.last_place_among(fenced) {
+            first = first.min(place);
+        }
+    }
+    first
+}
+
 /// What the cheapest offered kind costs that orders a pair at the slot which isn't among these.
 fn least_break(offers: &Offers, slot: Slot, kept: Pairs) -> u64 {
-    break_at(offers, slot, kept).map_or(NEVER, u64::from)
+    match break_at(offers, slot, kept) {
+        Some(cost) => u64::from(cost),
+        None => NEVER,
+    }
 }
 
 /// What the placement costs. At the highest costs that is far below what never is.
@@ -110,28 +154,11 @@ fn floor_cost(offers: &Offers, decisions: &[Decision]) -> u64 {
 impl Known {
     /// What breaking it takes at a node, where it shows the outcome under the node's least placement.
     fn unbroken(&self, number: usize, floor: &Codes, decisions: &[Decision]) -> Option<Unbroken> {
-        if !floor.is_within(&self.kept) {
-            return None;
+        if floor.is_within(&self.kept) {
+            Some(Unbroken::of(number, &self.breaks, decisions))
+        } else {
+            None
         }
-        let mut slots: u32 = 0;
-        let mut least = NEVER;
-        let mut places: u64 = 0;
-        let mut place: u64 = 1;
-        for (decision, cost) in decisions.iter().zip(&self.breaks) {
-            if decision.decided.is_none() && *cost != NEVER {
-                slots = slots.saturating_add(1);
-                least = least.min(*cost);
-                places |= place;
-            }
-            place = place.wrapping_shl(1);
-        }
-        let lack = NEVER.saturating_sub(least);
-        Some(Unbroken {
-            slots,
-            lack,
-            number,
-            places,
-        })
     }
 }
 
@@ -148,7 +175,12 @@ impl Store {
     /// Has a stored witness these widths?
     pub(crate) fn has_widths(&self, witness: &Witness) -> bool {
         let codes = Codes::of_widths(witness.widths.as_slice());
-        self.known.iter().any(|known| codes.is_within(&known.kept) && known.kept.is_within(&codes))
+        for known in &self.known {
+            if codes.is_within(&known.kept) && known.kept.is_within(&codes) {
+                return true;
+            }
+        }
+        false
     }
 
     /// Stores a witness. The decisions are those of any node. At `Err` nothing is changed.
@@ -265,13 +297,28 @@ impl Store {
     {
         let decisions = part.as_slice();
         let unbroken = self.unbroken(alloc, &Codes::of_floor(decisions), decisions)?;
-        let best = bound.map(|bound| bound.placement.as_slice());
-        let limit = Limit::of(offers, best, decisions);
-        let mut sum = Sum::of(floor_cost(offers, decisions));
+        let limit = Limit::of(offers, bound, decisions);
+        let sum = Sum::of(floor_cost(offers, decisions));
+        self.take_greedily(alloc, &unbroken, sum, &limit)
+    }
+
+    /// The first of these witnesses, without those that share a breakable slot with one before, which cost too much to
+    /// break together beside the sum. None where all of them don't.
+    fn take_greedily(
+        &self,
+        alloc: Global,
+        unbroken: &[Unbroken],
+        sum: Sum,
+        limit: &Limit,
+    ) -> Result<Vec<Arc<Witness>>, AllocError>
+        ensures { IfOk result (λ picked. (t : Test) (ss : List SlotValue) → AreWitnesses t ss self.now
+            → AreWitnesses t ss (map arc_value picked.items)) }
+    {
+        let mut sum = sum;
         let mut picked = Vec::new(alloc);
-        for found in &unbroken {
+        for found in unbroken {
             self.take(&mut picked, &mut sum, found)?;
-            if sum.passes(&limit) {
+            if sum.passes(limit) {
                 return Ok(picked);
             }
         }
@@ -292,15 +339,14 @@ impl Store {
     ) -> Result<Option<Slot>, AllocError> {
         let decisions = part.as_slice();
         let unbroken = self.unbroken(alloc, &Codes::of_floor(decisions), decisions)?;
-        let fewest = unbroken.first().map_or(0, |found| found.slots);
-        let fenced = best.map_or(0, |best| fenced_places(best.placement.as_slice()));
-        let place = unbroken
-            .iter()
-            .take_while(|found| found.slots == fewest)
-            .filter_map(|found| found.last_place_among(fenced))
-            .min();
-        let decision = place.and_then(|place| decisions.get(place));
-        Ok(decision.map(|decision| decision.slot))
+        let fenced = match best {
+            Some(best) => fenced_places(best.placement.as_slice()),
+            None => 0,
+        };
+        match decisions.get(place_to_split(&unbroken, fenced)) {
+            Some(decision) => Ok(Some(decision.slot)),
+            None => Ok(None),
+        }
     }
 
     /// What these witnesses don't keep at the slot of this number: a bit for each set of pairs, by the bits of the
@@ -335,8 +381,9 @@ fn breaks_of(
     widths: &[Pairs],
 ) -> Result<Vec<u64>, AllocError> {
     let mut breaks = Vec::new(alloc);
-    for (decision, kept) in decisions.iter().zip(widths) {
-        breaks.push(least_break(offers, decision.slot, *kept))?;
+    for slot in 0..decisions.len().min(widths.len()) {
+        let decision = &decisions[slot];
+        breaks.push(least_break(offers, decision.slot, widths[slot]))?;
     }
     Ok(breaks)
 }
@@ -405,13 +452,14 @@ impl Limit {
 
     /// The limit at a node of these decisions: at equal cost the best placement so far wins where the node's earliest
     /// placement isn't before it. Where there is none it is what can't be had at all.
-    fn of(offers: &Offers, best: Option<&[Entry]>, decisions: &[Decision]) -> Limit {
-        match best {
-            None => Limit::never(),
-            Some(best) => Limit {
-                cost: cost(offers, best),
-                is_enough: !earliest_precedes(offers, decisions, best),
-            },
+    fn of(offers: &Offers, best: Option<&Arc<Forbidden>>, decisions: &[Decision]) -> Limit {
+        let Some(best) = best else {
+            return Limit::never();
+        };
+        let placement = best.placement.as_slice();
+        Limit {
+            cost: cost(offers, placement),
+            is_enough: !earliest_precedes(offers, decisions, placement),
         }
     }
 }

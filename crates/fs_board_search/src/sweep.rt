@@ -17,7 +17,7 @@ use fs_board_offers::cost;
 use fs_cert_evidence::Witness;
 use fs_judge::{Alone, Problem, Team};
 use fs_kinds::Fault;
-use std::alloc::Global;
+use std::alloc::{AllocError, Global};
 use std::sync::Arc;
 
 /// What the cheapest fences posted so far cost.
@@ -95,6 +95,55 @@ fn sweep<W: Watch, T: Team>(
     Ok(false)
 }
 
+/// A scout of the board's question that makes a plan. The problem is that of the board's test.
+fn planner_of(alloc: Global, board: &Board, problem: Arc<Problem>) -> Result<Scout, AllocError>
+    requires { board.now.question.test ≡ arc_value problem }
+    ensures { IfOk result (λ scout. scout ≡ board.now.question) }
+{
+    let question = Arc::try_clone(board.question())?;
+    Ok(Scout::planner(alloc, question, problem))
+}
+
+/// What `search` does, with this scout.
+fn sweep_all<W: Watch>(
+    alloc: Global,
+    board: &mut Board,
+    scout: &mut Scout,
+    watch: &mut W,
+) -> Result<(), Fault>
+    requires { board.old.question ≡ scout.old }
+    ensures goes { GoesOn board.old board.new }
+    ensures ok { OnOk result (is_finished board.new.board ≡ true) }
+    ensures err { IfErr result (λ f. f ≢ Fault.Memory → IsSearchFault board.old f) }
+{
+    let _all = sweep(alloc, board, scout, None, watch, &Alone)?;
+    Ok(())
+}
+
+/// What `search_alone` does, with this scout.
+fn sweep_alone<W: Watch, T: Team>(
+    alloc: Global,
+    board: &mut Board,
+    scout: &mut Scout,
+    most: usize,
+    watch: &mut W,
+    team: &T,
+) -> Result<Option<Vec<Arc<Witness>>>, Fault>
+    requires team { T.may_hunt }
+    requires same { board.old.question ≡ scout.old }
+    ensures goes { GoesOn board.old board.new }
+    ensures met { IfOk result
+        (λ found. IfSome found
+        (λ met. AreWitnesses board.old.question.test (slots board.old.question.offers) (map arc_value met.items))) }
+    ensures finished { IfOk result (λ found. IfNone found (is_finished board.new.board ≡ true)) }
+    ensures err { IfErr result (λ f. f ≢ Fault.Memory → IsSearchFault board.old f) }
+{
+    if sweep(alloc, board, scout, Some(most), watch, team)? {
+        return Ok(None);
+    }
+    Ok(Some(scout.witnesses(alloc)?))
+}
+
 /// Searches until the board is finished, whatever open and held nodes it has: a child of its own first, then any open
 /// node, then any that is held, whoever holds it. It works as worker 0, and makes a plan before the first node. F16
 /// where a split is refused for want of nodes, and then the tree of all placements may have more nodes below its root
@@ -116,10 +165,8 @@ pub fn search<W: Watch>(
     ensures ok { OnOk result (is_finished board.new.board ≡ true) }
     ensures err { IfErr result (λ f. f ≢ Fault.Memory → IsSearchFault board.old f) }
 {
-    let question = Arc::try_clone(board.question())?;
-    let mut scout = Scout::planner(alloc, question, problem);
-    let _all = sweep(alloc, board, &mut scout, None, watch, &Alone)?;
-    Ok(())
+    let mut scout = planner_of(alloc, board, problem)?;
+    sweep_all(alloc, board, &mut scout, watch)
 }
 
 /// Searches as `search` does, but stops when it is done with so many nodes, or where judging takes so long that other
@@ -142,10 +189,6 @@ pub fn search_alone<W: Watch, T: Team>(
     ensures finished { IfOk result (λ found. IfNone found (is_finished board.new.board ≡ true)) }
     ensures err { IfErr result (λ f. f ≢ Fault.Memory → IsSearchFault board.old f) }
 {
-    let question = Arc::try_clone(board.question())?;
-    let mut scout = Scout::planner(alloc, question, problem);
-    if sweep(alloc, board, &mut scout, Some(most), watch, team)? {
-        return Ok(None);
-    }
-    Ok(Some(scout.witnesses(alloc)?))
+    let mut scout = planner_of(alloc, board, problem)?;
+    sweep_alone(alloc, board, &mut scout, most, watch, team)
 }

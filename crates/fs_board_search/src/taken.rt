@@ -20,6 +20,18 @@ pub struct Taken {
     pub slot: Option<Slot>,
 }
 
+/// Puts the child of this number on the stack, where the first one is this node.
+fn push_child(
+    children: &mut Vec<Child>,
+    slot: Slot,
+    first: usize,
+    number: usize,
+) -> Result<(), AllocError> {
+    let node = first.saturating_add(number);
+    children.push(Child { node, slot })?;
+    Ok(())
+}
+
 /// Puts the children that a reply gives to a node, which was split at the slot, on the stack, the first one last, but
 /// for the one that comes next, which is on top. That one is named by its number among them.
 pub(crate) fn push_children(
@@ -31,10 +43,13 @@ pub(crate) fn push_children(
     let Reply::Children(first, count) = reply else {
         return Ok(());
     };
-    let next = next.filter(|k| k < count);
-    for k in (0..*count).rev().filter(|k| Some(*k) != next).chain(next) {
-        let node = first.saturating_add(k);
-        children.push(Child { node, slot })?;
+    for k in (0..*count).rev() {
+        if Some(k) != next {
+            push_child(children, slot, *first, k)?;
+        }
     }
-    Ok(())
+    match next {
+        Some(k) if k < *count => push_child(children, slot, *first, k),
+        _ => Ok(()),
+    }
 }

@@ -1,74 +1,19 @@
 use Rattle.std.proofs.Common.{◌≡◌, ◌∙◌, List, Option, IfSome, ap, sym, subst}
-use Rattle.std.specs.Arc.{arc_value}
 use Rattle.fs_kinds.specs.declared.placement.Entry.{Entry}
 use Rattle.fs_kinds.specs.Placement.{slots_of}
-use Rattle.fs_model.specs.declared.test.Test.{Test}
-use Rattle.fs_cert_evidence.specs.Evidence.{Refuted}
 use Rattle.fs_board_offers.specs.Offers.{slots}
 use Rattle.fs_board_offers.specs.Parts.{slots_in_part}
 use Rattle.fs_board_offers.specs.Questions.{Question}
-use Rattle.fs_board_search.specs.Tries.{IsPostable}
 use Rattle.fs_board_search.proofs.Handed.{candidates-handed}
-use Rattle.fs_board_search.proofs.Scouts.{known-at, known-still}
 use Rattle.fs_board_search.proofs.scout.Scout.judge_cheapest.Goals as goal
 
-pub returns-in_err-verdict-clause-err : goal.returns-in_err-verdict-clause-err
-returns-in_err-verdict-clause-err g c =
-    candidates-handed c.from_residual-in_err-verdict.result _ c.self.inside.judge c.args.self.now.test
-    (c.self.invariant.0 ∙ ap (λ (q : Question). q.test) c.self.view_is)
-    c.from_residual-in_err-verdict.ensures.1 c.in_err-verdict.ensures.err
+pub judge_by-requires-clause-slots : goal.judge_by-requires-clause-slots
+judge_by-requires-clause-slots g c =
+    subst (λ (o : Option (List Entry)). IfSome o (λ p. slots_of p ≡ slots_in_part c.args.part.now)) c.in-Some.is c.in_ok-placement.ensures.slots
+    ∙ (c.requires.slots ∙ ap (λ (q : Question). slots q.offers) (sym c.in_ok-placement.ensures.value))
 
-pub invariant_of-self-in_err-found : goal.invariant_of-self-in_err-found
-invariant_of-self-in_err-found g c =
-    let t = c.self.inside.judge in
-    let q = arc_value c.self.inside.question in
-    let p = c.in-Some.placement in
-    let over : slots_of p ≡ slots q.offers =
-    subst (λ (o : Option (List Entry)). IfSome o (λ p. slots_of p ≡ slots_in_part c.args.part.now)) c.in-Some.is c.in_ok-cheapest.ensures
-    ∙ (c.requires.slots ∙ ap (λ (q : Question). slots q.offers) (sym c.self.view_is)) in
-    let known = known-at t (slots_of p) q c.self.inside.store c.self.invariant.0 over c.self.invariant.1 in
-    known-still c.verdict_by.new.self t (slots_of p) q c.forbidden_or_stored.new.store c.self.inside.planned
-    c.in_ok-verdict.ensures.value c.self.invariant.0 over (c.in_err-found.ensures.known t p c.in_ok-verdict.ensures.ok known) c.self.invariant.2
-
-pub invariant_of-self-in_default-found : goal.invariant_of-self-in_default-found
-invariant_of-self-in_default-found g c =
-    let t = c.self.inside.judge in
-    let q = arc_value c.self.inside.question in
-    let p = c.in-Some.placement in
-    let over : slots_of p ≡ slots q.offers =
-    subst (λ (o : Option (List Entry)). IfSome o (λ p. slots_of p ≡ slots_in_part c.args.part.now)) c.in-Some.is c.in_ok-cheapest.ensures
-    ∙ (c.requires.slots ∙ ap (λ (q : Question). slots q.offers) (sym c.self.view_is)) in
-    let known = known-at t (slots_of p) q c.self.inside.store c.self.invariant.0 over c.self.invariant.1 in
-    known-still c.verdict_by.new.self t (slots_of p) q c.forbidden_or_stored.new.store c.self.inside.planned
-    c.in_ok-verdict.ensures.value c.self.invariant.0 over (c.in_ok-found.ensures.known t p c.in_ok-verdict.ensures.ok known) c.self.invariant.2
-
-pub invariant_of-self-in_err-new : goal.invariant_of-self-in_err-new
-invariant_of-self-in_err-new g c =
-    let t = c.self.inside.judge in
-    let q = arc_value c.self.inside.question in
-    let p = c.in-Some.placement in
-    let over : slots_of p ≡ slots q.offers =
-    subst (λ (o : Option (List Entry)). IfSome o (λ p. slots_of p ≡ slots_in_part c.args.part.now)) c.in-Some.is c.in_ok-cheapest.ensures
-    ∙ (c.requires.slots ∙ ap (λ (q : Question). slots q.offers) (sym c.self.view_is)) in
-    let known = known-at t (slots_of p) q c.self.inside.store c.self.invariant.0 over c.self.invariant.1 in
-    known-still c.verdict_by.new.self t (slots_of p) q c.forbidden_or_stored.new.store c.self.inside.planned
-    c.in_ok-verdict.ensures.value c.self.invariant.0 over (c.in_ok-found.ensures.known t p c.in_ok-verdict.ensures.ok known) c.self.invariant.2
-
-pub invariant_of-self-2 : goal.invariant_of-self-2
-invariant_of-self-2 g c =
-    let t = c.self.inside.judge in
-    let q = arc_value c.self.inside.question in
-    let p = c.in-Some.placement in
-    let over : slots_of p ≡ slots q.offers =
-    subst (λ (o : Option (List Entry)). IfSome o (λ p. slots_of p ≡ slots_in_part c.args.part.now)) c.in-Some.is c.in_ok-cheapest.ensures
-    ∙ (c.requires.slots ∙ ap (λ (q : Question). slots q.offers) (sym c.self.view_is)) in
-    let known = known-at t (slots_of p) q c.self.inside.store c.self.invariant.0 over c.self.invariant.1 in
-    let still = known-still c.verdict_by.new.self t (slots_of p) q c.forbidden_or_stored.new.store c.self.inside.planned
-    c.in_ok-verdict.ensures.value c.self.invariant.0 over (c.in_ok-found.ensures.known t p c.in_ok-verdict.ensures.ok known) c.self.invariant.2 in
-    let postable : IsPostable t c.in-Some-found.forbidden =
-    subst (λ (found : Option Refuted). IfSome found (IsPostable t)) c.in-Some-found.is (c.in_ok-found.ensures.ok t _ c.in_ok-verdict.ensures.ok) in (
-      still.0,
-      still.1,
-      subst (IsPostable (arc_value c.self.inside.question).test) (sym c.in_ok-new.ensures.ok)
-          (subst (λ (u : Test). IsPostable u c.in-Some-found.forbidden) c.self.invariant.0 postable),
-    )
+pub returns-in_err-found-clause-err : goal.returns-in_err-found-clause-err
+returns-in_err-found-clause-err g c =
+    candidates-handed c.from_residual-in_err-found.result _ c.cheapest.new.self.test c.args.self.now.test
+    (ap (λ (q : Question). q.test) c.in_ok-placement.ensures.value)
+    c.from_residual-in_err-found.ensures.1 c.in_err-found.ensures.err
