@@ -131,6 +131,27 @@ impl<A: Asked, R: Wait, G: Gate> Workplace<'_, A, R, G> {
         }
     }
 
+    /// Asks the desk for a node, whose parent this worker split at the slot, if it did. None where it hands out none.
+    /// An error where memory lacks.
+    fn ask_for_node(
+        &self,
+        pass: Pass<A>,
+        event: Event,
+        slot: Option<Slot>,
+    ) -> (Pass<A>, Result<Option<Taken>, AllocError>)
+        requires question { arc_value self.now.question.now ≡ A.question }
+        requires made { IsMade A.question event }
+        ensures { IfOk result.1
+            (λ found. IfSome found (λ t. slots_in_part (arc_value t.part) ≡ slots A.question.offers)) }
+    {
+        let (pass, is_made) = self.ask(pass, event);
+        if !is_made {
+            return (pass, Err(AllocError));
+        }
+        let found = given(&pass, self.question, slot);
+        (pass, found)
+    }
+
     /// The first of the next `MOST_CLAIMS` nodes of `own_or_stolen` that is still open, else any open node. None where
     /// there is none, and where memory lacks.
     fn next_node(
@@ -147,26 +168,19 @@ impl<A: Asked, R: Wait, G: Gate> Workplace<'_, A, R, G> {
             let Some((node, slot)) = own_or_stolen(hand, children) else {
                 break;
             };
-            let (after, is_made) = self.ask(pass, Event::Claim(node));
+            let (after, asked) = self.ask_for_node(pass, Event::Claim(node), slot);
             pass = after;
-            if !is_made {
-                return (pass, None);
-            }
-            let Ok(found) = given(&pass, self.question, slot) else {
-                return (pass, None);
-            };
-            if found.is_some() {
-                return (pass, found);
+            match asked {
+                Ok(None) => {}
+                Ok(Some(taken)) => return (pass, Some(taken)),
+                Err(_) => return (pass, None),
             }
         }
-        let (pass, is_made) = self.ask(pass, Event::Take);
-        if !is_made {
-            return (pass, None);
+        let (pass, asked) = self.ask_for_node(pass, Event::Take, None);
+        match asked {
+            Ok(found) => (pass, found),
+            Err(_) => (pass, None),
         }
-        let Ok(found) = given(&pass, self.question, None) else {
-            return (pass, None);
-        };
-        (pass, found)
     }
 
     /// Tries one way to be done with a node. By cost nothing is closed before a posted placement was seen, so the desk
@@ -278,29 +292,56 @@ impl<A: Asked, R: Wait, G: Gate> Workplace<'_, A, R, G> {
     }
 
     /// Takes nodes and is done with each, until there are none or something fails.
-    fn rounds(&self, pass: Pass<A>, hand: Hand, scout: Scout) -> Pass<A>
+    fn rounds(&self, pass: Pass<A>, hand: &mut Hand, scout: &mut Scout) -> Pass<A>
+        requires question { arc_value self.now.question.now ≡ A.question }
+        requires scout { scout.old ≡ A.question }
+        requires met { AreWitnesses A.question.test (slots A.question.offers) (map arc_value self.now.met.now.items) }
+    {
+        let mut pass = pass;
+        let mut children = Vec::new(self.alloc);
+        for _ in 0..usize::MAX {
+            let (after, goes_on) = self.round(pass, hand, scout, &mut children);
+            pass = after;
+            if !goes_on {
+                return pass;
+            }
+        }
+        pass
+    }
+
+    /// Takes a node and is done with it. False where there is none or something fails.
+    fn round(
+        &self,
+        pass: Pass<A>,
+        hand: &mut Hand,
+        scout: &mut Scout,
+        children: &mut Vec<Child>,
+    ) -> (Pass<A>, bool)
+        requires question { arc_value self.now.question.now ≡ A.question }
+        requires scout { scout.old ≡ A.question }
+        requires met { AreWitnesses A.question.test (slots A.question.offers) (map arc_value self.now.met.now.items) }
+        ensures value { scout.new ≡ scout.old }
+    {
+        let (pass, next) = self.next_node(pass, hand, children);
+        let Some(taken) = next else {
+            return (pass, false);
+        };
+        let (pass, goes_on) = self.handle(pass, scout, children, &taken);
+        if goes_on {
+            offer(hand, children);
+        }
+        (pass, goes_on)
+    }
+
+    /// The same with a hand and a scout of its own.
+    fn all_rounds(&self, pass: Pass<A>, hand: Hand, scout: Scout) -> Pass<A>
         requires question { arc_value self.now.question.now ≡ A.question }
         requires scout { scout ≡ A.question }
         requires met { AreWitnesses A.question.test (slots A.question.offers) (map arc_value self.now.met.now.items) }
     {
         let mut hand = hand;
         let mut scout = scout;
-        let mut pass = pass;
-        let mut children = Vec::new(self.alloc);
-        for _ in 0..usize::MAX {
-            let (after, next) = self.next_node(pass, &mut hand, &mut children);
-            pass = after;
-            let Some(taken) = next else {
-                return pass;
-            };
-            let (after, goes_on) = self.handle(pass, &mut scout, &mut children, &taken);
-            pass = after;
-            if !goes_on {
-                return pass;
-            }
-            offer(&mut hand, &mut children);
-        }
-        pass
+        self.rounds(pass, &mut hand, &mut scout)
     }
 
     /// A scout of the question, with the problem of its test.
@@ -321,7 +362,7 @@ impl<A: Asked, R: Wait, G: Gate> Workplace<'_, A, R, G> {
         requires met { AreWitnesses A.question.test (slots A.question.offers) (map arc_value self.now.met.now.items) }
     {
         let pass = match self.scout(problem) {
-            Ok(scout) => self.rounds(pass, hand, scout),
+            Ok(scout) => self.all_rounds(pass, hand, scout),
             Err(_) => pass,
         };
         self.desk.leave(self.rt, &pass);
