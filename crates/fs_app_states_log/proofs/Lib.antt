@@ -1,6 +1,7 @@
 mod Pieces
 mod Onward
 mod Reading
+mod Joined
 pub mod Tallying
 pub mod Matching
 pub mod Lacking
