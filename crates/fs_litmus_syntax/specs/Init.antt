@@ -1,6 +1,6 @@
 -- The block of initial values (herd7's format of litmus tests).
 -- L ts a rest says that the tokens ts are an L that means a, and then rest.
-use Rattle.std.specs.Prelude.{◌≡◌, ℕ, List, [], ◌∷◌, ◌++◌, true, false, map, codes}
+use Rattle.std.specs.Prelude.{◌≡◌, ℕ, List, [], ◌∷◌, ◌++◌, Option, Some, None, true, false, map, codes}
 use Rattle.fs_litmus_tokens.specs.Words.{is_name}
 use Rattle.fs_litmus_tokens.specs.Tokens.{Tok, Lined, Word, Sign}
 use Rattle.fs_litmus_tokens.specs.declared.word.Class.{Class}
@@ -152,12 +152,20 @@ abbrev pub target_ended : ℕ → Target → List Entry → Tok → Move State (
 target_ended line x es (Sign Equals) = at_entries es (Go (AfterEquals line x))
 target_ended line x es t = entry_ended (unset line x) es t
 
+-- behind the name of a type, where the token may stand there
+abbrev pub type_followed : Lined → Option Turn
+type_followed (Word c v, k) = Some (target_begun (Word c v, k))
+type_followed (Sign OpenBracket, k) = Some (target_begun (Sign OpenBracket, k))
+type_followed (Sign Star, k) = Some (Go AfterStar)
+type_followed t = None
+
+abbrev pub turned_or : Option Turn → List Entry → Move State (List Entry) → Move State (List Entry)
+turned_or None es otherwise = otherwise
+turned_or (Some t) es otherwise = at_entries es t
+
 -- a name is that of a type where a target or * follows
 abbrev pub name_followed : ℕ → List ℕ → List Entry → Lined → Move State (List Entry)
-name_followed line w es (Word c v, k) = at_entries es (target_begun (Word c v, k))
-name_followed line w es (Sign OpenBracket, k) = at_entries es (target_begun (Sign OpenBracket, k))
-name_followed line w es (Sign Star, k) = at_entries es (Go AfterStar)
-name_followed line w es t = target_ended line (Location w) es t.0
+name_followed line w es t = turned_or (type_followed t) es (target_ended line (Location w) es t.0)
 
 abbrev pub next_in : Position → List Entry → Lined → Move State (List Entry)
 next_in BeforeBrace es t = at_entries es (brace_expected t.0)

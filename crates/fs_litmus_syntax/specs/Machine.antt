@@ -129,18 +129,22 @@ whole_of _ = None
 abbrev pub start : {X : Type 0} → State X
 start = at Begin empty []
 
--- before a unit
-abbrev pub next_begin : {X : Type 0} → Frame X → List (Frame X) → Tok → Option (State X)
-next_begin f fs (Word class.Number w) = Some (at (InAtom (AfterHart w)) f fs)
-next_begin f fs (Word class.NotWord w) = Some (at (AfterNot w) f fs)
-next_begin f fs (Word class.TrueWord w) = Some (at (AfterWord true w) f fs)
-next_begin f fs (Word class.FalseWord w) = Some (at (AfterWord false w) f fs)
-next_begin f fs (Word class.Other w) = None
-next_begin f fs (Word c w) = Some (at (InAtom (AfterTarget (Location w))) f fs)
-next_begin f fs (Sign OpenBracket) = Some (at (InAtom AfterBracket) f fs)
-next_begin f fs (Sign Tilde) = Some (at Begin (with_denial f) fs)
-next_begin f fs (Sign OpenParen) = Some (at Begin empty (f ∷ fs))
-next_begin f fs _ = None
+-- what the first word of a unit, or the bracket of an atom, begins
+abbrev pub word_begun : {X : Type 0} → Tok → Option (Place X)
+word_begun (Word class.Number w) = Some (InAtom (AfterHart w))
+word_begun (Word class.NotWord w) = Some (AfterNot w)
+word_begun (Word class.TrueWord w) = Some (AfterWord true w)
+word_begun (Word class.FalseWord w) = Some (AfterWord false w)
+word_begun (Word class.Other w) = None
+word_begun (Word c w) = Some (InAtom (AfterTarget (Location w)))
+word_begun (Sign OpenBracket) = Some (InAtom AfterBracket)
+word_begun _ = None
+
+-- a denial, or an opening parenthesis
+abbrev pub mark_begun : {X : Type 0} → Frame X → List (Frame X) → Tok → Option (State X)
+mark_begun f fs (Sign Tilde) = Some (at Begin (with_denial f) fs)
+mark_begun f fs (Sign OpenParen) = Some (at Begin empty (f ∷ fs))
+mark_begun f fs _ = None
 
 -- a word names a location where the sign of an atom follows
 abbrev pub named_or : {X : Type 0} → Option AtomPlace → Frame X → List (Frame X) → Option (State X) → Option (State X)
@@ -157,6 +161,10 @@ word_place b w t = None
 abbrev pub placed_or : {X : Type 0} → Option (Place X) → Frame X → List (Frame X) → Option (State X) → Option (State X)
 placed_or None f fs says = says
 placed_or (Some p) f fs says = Some (at p f fs)
+
+-- before a unit
+abbrev pub next_begin : {X : Type 0} → Frame X → List (Frame X) → Tok → Option (State X)
+next_begin f fs t = placed_or (word_begun t) f fs (mark_begun f fs t)
 
 abbrev pub is_greater : Tok → Bool
 is_greater (Sign Greater) = true

@@ -11,7 +11,7 @@ use crate::condition::Atom;
 use fs_litmus_tokens::{Class, Kind, Mark, Target, Value};
 
 /// What was read last of an atom.
-#[derive(Clone, Copy, Debug)]
+#[derive(Clone, Copy)]
 pub enum AtomPlace<'a> {
     AfterHart(&'a str),
     AfterColon(&'a str),
@@ -28,7 +28,7 @@ pub enum AtomPlace<'a> {
 
 /// What one more token of an atom does: there is more to come, or the atom ends with it, denied or not, or it can't stand
 /// there.
-#[derive(Clone, Copy, Debug)]
+#[derive(Clone, Copy)]
 pub enum AtomStep<'a> {
     Go(AtomPlace<'a>),
     Done(bool, Atom<'a>),

@@ -1,8 +1,12 @@
 //! The code of one hart.
 
-ghost use Rattle.std.specs.Prelude.{◌<◌, IfOk};
+ghost use Rattle.std.specs.Prelude.{◌≡◌, ◌<◌, ℕ, List, IfOk};
+ghost use Rattle.std.specs.Str.{bytes_eq};
+ghost use Rattle.indexmap.specs.IndexMap.{get_by};
 ghost use Rattle.fs_litmus_syntax.specs.Columns.{column, cells_of};
+ghost use Rattle.fs_litmus_syntax.specs.Labels.{position, IsLabelFault};
 ghost use Rattle.fs_litmus_syntax.specs.Codes.{ReadsHart, ReadsListing};
+ghost use Rattle.fs_kinds.specs.FaultOrder.{IsFirstOf};
 
 use crate::branches::{first_stray, instruction_count, resolve};
 use crate::column::read_column;
@@ -11,6 +15,7 @@ use crate::listing::Listing;
 use fs_instr::Instr;
 use fs_kinds::{Fault, MOST_INSTRUCTIONS, earliest};
 use fs_litmus_tokens::Token;
+use indexmap::IndexMap;
 use std::alloc::{AllocError, Global};
 
 /// The code of a hart: its instructions, or how many they are where they are too many.
@@ -29,15 +34,28 @@ fn read_listing(alloc: Global, listing: &Listing<'_>) -> Result<Result<HartCode,
 {
     let (positions, twice) = read_positions(alloc, listing)?;
     let stray = first_stray(listing, &positions);
-    if let Some(fault) = earliest(twice, stray) {
+    code_of(alloc, listing, &positions, earliest(twice, stray))
+}
+
+/// The code of a hart whose labels are at these positions; or its fault, the first of its labels and branches.
+fn code_of(
+    alloc: Global,
+    listing: &Listing<'_>,
+    positions: &IndexMap<&str, usize>,
+    fault: Option<Fault>,
+) -> Result<Result<HartCode, Fault>, AllocError>
+    requires positions { (w : List ℕ) → get_by (λ k. bytes_eq w k.now) positions.now ≡ position w listing.now }
+    requires first { IsFirstOf (IsLabelFault listing.now) fault }
+    ensures { IfOk result (ReadsListing listing.now) }
+{
+    if let Some(fault) = fault {
         return Ok(Err(fault));
     }
     let count = instruction_count(listing);
     if count > MOST_INSTRUCTIONS {
         return Ok(Ok(HartCode::Long(count)));
     }
-    let code = resolve(alloc, listing, &positions)?;
-    Ok(Ok(HartCode::Short(code)))
+    Ok(Ok(HartCode::Short(resolve(alloc, listing, positions)?)))
 }
 
 /// The code of a hart, or its first fault. Fails only for want of memory.

@@ -1,6 +1,6 @@
 //! The initial values.
 
-ghost use Rattle.std.specs.Prelude.{◌≡◌, IfOk, IfErr};
+ghost use Rattle.std.specs.Prelude.{◌≡◌, option_map, IfOk, IfErr};
 ghost use Rattle.fs_litmus_tokens.specs.Tokens.{view, kind_of, views};
 ghost use Rattle.fs_litmus_tokens.specs.Values.{target_of, value_of};
 ghost use Rattle.fs_litmus_tokens.specs.Sections.{Takes};
@@ -8,7 +8,7 @@ ghost use Rattle.fs_litmus_syntax.specs.Reading.{IsEnd, Refuses};
 ghost use Rattle.fs_litmus_syntax.specs.Init.{IsInit, entry_of, entries_of, position_of, turn_of, move_of};
 ghost use Rattle.fs_litmus_syntax.specs.Init.{target_begun, entry_begun, target_followed, valued, value_begun};
 ghost use Rattle.fs_litmus_syntax.specs.Init.{minus_followed, ampersand_followed, entry_ended, target_ended};
-ghost use Rattle.fs_litmus_syntax.specs.Init.{name_followed, next_in};
+ghost use Rattle.fs_litmus_syntax.specs.Init.{type_followed, name_followed, next_in};
 
 use fs_litmus_tokens::{Class, Kind, Mark, Stop, Target, Token, Value};
 use std::alloc::{AllocError, Global};
@@ -208,6 +208,17 @@ fn end_target<'a>(
     }
 }
 
+/// The token after a name of a type: a target begins, or `*` follows. Behind other names stands another.
+fn follow_type<'a>(token: Token<'a>) -> Option<Transition<'a>>
+    ensures { option_map turn_of result ≡ type_followed (view token.entry) }
+{
+    match token.kind {
+        Kind::Word(_, _) | Kind::Sign(Mark::OpenBracket) => Some(begin_target(token)),
+        Kind::Sign(Mark::Star) => Some(Transition::Go(Position::AfterStar)),
+        _ => None,
+    }
+}
+
 /// The token after a name, which is that of a type where a target or `*` follows.
 fn follow_name<'a>(
     line: usize,
@@ -218,10 +229,9 @@ fn follow_name<'a>(
     ensures { IfOk result (λ s. move_of s entries.new.items
         ≡ name_followed line name.entry.now (entries_of entries.old.items) (view token.entry)) }
 {
-    match token.kind {
-        Kind::Word(_, _) | Kind::Sign(Mark::OpenBracket) => Ok(begin_target(token)),
-        Kind::Sign(Mark::Star) => Ok(Transition::Go(Position::AfterStar)),
-        kind => end_target(line, Target::Location(name), entries, kind),
+    match follow_type(token) {
+        Some(transition) => Ok(transition),
+        None => end_target(line, Target::Location(name), entries, token.kind),
     }
 }
 
@@ -241,12 +251,12 @@ fn take<'a>(
         },
         Position::BeforeEntry => Ok(begin_entry(token)),
         Position::AfterStar => Ok(begin_target(token)),
-        Position::AfterName(line, name) => Ok(follow_name(line, name, entries, token)?),
-        Position::AfterTarget(line, target) => Ok(end_target(line, target, entries, token.kind)?),
+        Position::AfterName(line, name) => follow_name(line, name, entries, token),
+        Position::AfterTarget(line, target) => end_target(line, target, entries, token.kind),
         Position::AfterEquals(line, target) => Ok(begin_value(line, target, token.kind)),
         Position::AfterMinus(line, target) => Ok(follow_minus(line, target, token.kind)),
         Position::AfterAmpersand(line, target) => Ok(follow_ampersand(line, target, token.kind)),
-        Position::AfterValue(entry) => Ok(end_entry(entry, entries, token.kind)?),
+        Position::AfterValue(entry) => end_entry(entry, entries, token.kind),
         _ => Ok(follow_target(position, token.kind)),
     }
 }

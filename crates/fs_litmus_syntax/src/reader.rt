@@ -1,14 +1,16 @@
 //! Reads a condition once, from left to right.
 
-ghost use Rattle.std.specs.Prelude.{◌≡◌, ◌<◌, ◌+◌, ◌++◌, [], IfOk, IfErr, OnOk, map, option_map};
+ghost use Rattle.std.specs.Prelude.{◌≡◌, ◌<◌, ◌+◌, ◌++◌, [], Some, None, IfOk, IfErr, OnOk, map, option_map};
 ghost use Rattle.fs_litmus_tokens.specs.Tokens.{kind_of, views};
 ghost use Rattle.fs_litmus_syntax.specs.Grammar.{Syntax, IsCondition};
 ghost use Rattle.fs_litmus_syntax.specs.Answer.{Means, StopsAt};
 ghost use Rattle.fs_litmus_tokens.specs.Values.{target_of, value_of};
 ghost use Rattle.fs_litmus_syntax.specs.Machine.{next_begin, next_after, found_unit, closed, completed};
+ghost use Rattle.fs_litmus_syntax.specs.Machine.{word_begun, mark_begun, named_or, compared_by, with_denial, implied};
 ghost use Rattle.fs_litmus_syntax.specs.Machine.{word_place, placed_or, placed, is_greater, with_premise, said, Begin};
 ghost use Rattle.fs_litmus_syntax.specs.Machine.{finished, next_atom, at, atoms_at, put_off, place_after, whole_of};
 ghost use Rattle.fs_litmus_syntax.specs.Machine.{next, end_at, end_of, read, start};
+ghost use Rattle.fs_litmus_tokens.specs.Values.{Location};
 ghost use Rattle.fs_litmus_syntax.specs.Limited.{limited};
 ghost use Rattle.fs_litmus_syntax.specs.Views.{subformula_of, atom_of, atom_place_of, layer_of, below_of};
 ghost use Rattle.fs_litmus_syntax.specs.Views.{place_of, reader_of, Gives};
@@ -47,53 +49,97 @@ struct Reader<'a> {
     below: Vec<Layer<'a>>,
 }
 
-/// Before a unit.
-fn begin<'a>(
+/// What the first word of a unit, or the bracket of an atom, begins.
+fn begin_word<'a>(kind: Kind<'a>) -> Option<Place<'a>>
+    ensures { option_map place_of result ≡ word_begun (kind_of kind.entry) }
+{
+    match kind {
+        Kind::Word(Class::Number, word) => Some(Place::InAtom(AtomPlace::AfterHart(word))),
+        Kind::Word(Class::NotWord, word) => Some(Place::AfterNot(word)),
+        Kind::Word(Class::TrueWord, word) => Some(Place::AfterWord(true, word)),
+        Kind::Word(Class::FalseWord, word) => Some(Place::AfterWord(false, word)),
+        Kind::Word(Class::Other, _) => None,
+        Kind::Word(_, word) => {
+            let target = Target::Location(word);
+            Some(Place::InAtom(AtomPlace::AfterTarget(target)))
+        }
+        Kind::Sign(Mark::OpenBracket) => Some(Place::InAtom(AtomPlace::AfterBracket)),
+        _ => None,
+    }
+}
+
+/// A denial, or an opening parenthesis, before a unit.
+fn begin_mark<'a>(
     layer: Layer<'a>,
     mut below: Vec<Layer<'a>>,
     kind: Kind<'a>,
 ) -> Result<Option<Reader<'a>>, AllocError>
     requires { layer.denials < usize.MAX }
     ensures { IfOk result (λ r. option_map reader_of r
+        ≡ mark_begun (layer_of layer.entry) (below_of below.entry.items []) (kind_of kind.entry)) }
+{
+    let Kind::Sign(mark) = kind else {
+        return Ok(None);
+    };
+    match mark {
+        Mark::Tilde => Ok(Some(Reader {
+            place: Place::Begin,
+            layer: layer.with_denial(),
+            below,
+        })),
+        Mark::OpenParen => {
+            below.push(layer)?;
+            Ok(Some(Reader {
+                place: Place::Begin,
+                layer: Layer::new(),
+                below,
+            }))
+        }
+        _ => Ok(None),
+    }
+}
+
+/// Before a unit.
+fn begin<'a>(
+    layer: Layer<'a>,
+    below: Vec<Layer<'a>>,
+    kind: Kind<'a>,
+) -> Result<Option<Reader<'a>>, AllocError>
+    requires { layer.denials < usize.MAX }
+    ensures { IfOk result (λ r. option_map reader_of r
         ≡ next_begin (layer_of layer.entry) (below_of below.entry.items []) (kind_of kind.entry)) }
 {
-    let place = match kind {
-        Kind::Word(class, word) => match class {
-            Class::Number => Place::InAtom(AtomPlace::AfterHart(word)),
-            Class::NotWord => Place::AfterNot(word),
-            Class::TrueWord => Place::AfterWord(true, word),
-            Class::FalseWord => Place::AfterWord(false, word),
-            Class::Other => return Ok(None),
-            _ => Place::InAtom(AtomPlace::AfterTarget(Target::Location(word))),
-        },
-        Kind::Sign(mark) => match mark {
-            Mark::OpenBracket => Place::InAtom(AtomPlace::AfterBracket),
-            Mark::Tilde => {
-                let layer = layer.with_denial();
-                return Ok(Some(Reader {
-                    place: Place::Begin,
-                    layer,
-                    below,
-                }));
-            }
-            Mark::OpenParen => {
-                below.push(layer)?;
-                let layer = Layer::new();
-                return Ok(Some(Reader {
-                    place: Place::Begin,
-                    layer,
-                    below,
-                }));
-            }
-            _ => return Ok(None),
-        },
-        Kind::Strange => return Ok(None),
-    };
-    Ok(Some(Reader {
-        place,
-        layer,
-        below,
-    }))
+    match begin_word(kind) {
+        Some(place) => Ok(Some(Reader {
+            place,
+            layer,
+            below,
+        })),
+        None => begin_mark(layer, below, kind),
+    }
+}
+
+/// After the word `not`.
+fn after_not<'a>(
+    word: &'a str,
+    layer: Layer<'a>,
+    below: Vec<Layer<'a>>,
+    kind: Kind<'a>,
+) -> Result<Option<Reader<'a>>, AllocError>
+    requires { layer.denials + 1 < usize.MAX }
+    ensures { IfOk result (λ r. option_map reader_of r
+        ≡ named_or (compared_by (Location word.entry.now) (kind_of kind.entry)) (layer_of layer.entry)
+        (below_of below.entry.items []) (next_begin (with_denial (layer_of layer.entry)) (below_of below.entry.items [])
+        (kind_of kind.entry))) }
+{
+    match compared_by(Target::Location(word), kind) {
+        Some(place) => Ok(Some(Reader {
+            place: Place::InAtom(place),
+            layer,
+            below,
+        })),
+        None => begin(layer.with_denial(), below, kind),
+    }
 }
 
 /// A closing parenthesis after a unit.
@@ -193,17 +239,36 @@ fn imply<'a>(
     unit: Subformula<'a>,
     layer: Layer<'a>,
     below: Vec<Layer<'a>>,
-) -> Result<Reader<'a>, AllocError>
-    ensures { IfOk result (λ r. reader_of r
-        ≡ at Begin (with_premise limited (layer_of layer.entry) (subformula_of unit.entry))
-        (below_of below.entry.items [])) }
+) -> Result<Option<Reader<'a>>, AllocError>
+    ensures { IfOk result (λ r. option_map reader_of r
+        ≡ Some (at Begin (with_premise limited (layer_of layer.entry) (subformula_of unit.entry))
+        (below_of below.entry.items []))) }
 {
     let layer = layer.with_premise(alloc, unit)?;
-    Ok(Reader {
+    Ok(Some(Reader {
         place: Place::Begin,
         layer,
         below,
-    })
+    }))
+}
+
+/// After a unit and `=`.
+fn after_equals<'a>(
+    alloc: Global,
+    unit: Subformula<'a>,
+    layer: Layer<'a>,
+    below: Vec<Layer<'a>>,
+    kind: Kind<'a>,
+) -> Result<Option<Reader<'a>>, AllocError>
+    ensures { IfOk result (λ r. option_map reader_of r
+        ≡ implied limited (subformula_of unit.entry) (layer_of layer.entry) (below_of below.entry.items [])
+        (kind_of kind.entry) None) }
+{
+    if is_greater(kind) {
+        imply(alloc, unit, layer, below)
+    } else {
+        Ok(None)
+    }
 }
 
 /// What the word `true` or `false` says.
@@ -215,6 +280,21 @@ fn said<'a>(alloc: Global, says: bool) -> Result<Subformula<'a>, AllocError>
     } else {
         Subformula::leaf(alloc, Tree::False)
     }
+}
+
+/// The word `true` or `false`, and then `=>`.
+fn imply_word<'a>(
+    alloc: Global,
+    says: bool,
+    layer: Layer<'a>,
+    below: Vec<Layer<'a>>,
+) -> Result<Option<Reader<'a>>, AllocError>
+    ensures { IfOk result (λ r. option_map reader_of r
+        ≡ Some (at Begin (with_premise limited (layer_of layer.entry) (said limited says))
+        (below_of below.entry.items []))) }
+{
+    let unit = said(alloc, says)?;
+    imply(alloc, unit, layer, below)
 }
 
 /// Behind the word `true` or `false`, the sign of an atom, or the `=` of `=>`.
@@ -334,31 +414,18 @@ fn step<'a>(
     } = reader;
     match place {
         Place::Begin => begin(layer, below, kind),
-        Place::AfterNot(word) => match compared_by(Target::Location(word), kind) {
-            Some(place) => Ok(Some(Reader {
-                place: Place::InAtom(place),
-                layer,
-                below,
-            })),
-            None => begin(layer.with_denial(), below, kind),
-        },
+        Place::AfterNot(word) => after_not(word, layer, below, kind),
         Place::AfterWord(says, word) => after_word(alloc, says, word, layer, below, kind),
         Place::AfterWordEquals(says, word) => {
             if is_greater(kind) {
-                let unit = said(alloc, says)?;
-                return Ok(Some(imply(alloc, unit, layer, below)?));
+                return imply_word(alloc, says, layer, below);
             }
             let place = AtomPlace::AfterEquals(Target::Location(word));
             in_atom(alloc, atoms, place, layer, below, kind)
         }
         Place::InAtom(place) => in_atom(alloc, atoms, place, layer, below, kind),
         Place::AfterUnit(unit) => after(alloc, unit, layer, below, kind),
-        Place::Implying(unit) => {
-            if is_greater(kind) {
-                return Ok(Some(imply(alloc, unit, layer, below)?));
-            }
-            Ok(None)
-        }
+        Place::Implying(unit) => after_equals(alloc, unit, layer, below, kind),
         Place::Whole(_) => Ok(None),
     }
 }

@@ -200,9 +200,9 @@ fn take<'b, 'a>(
     match position {
         Position::BeforeRow => match stop_rows(token.kind) {
             Some(turn) => Ok(turn.into()),
-            None => Ok(take_in_cell(cells, tokens, columns - 1, at, at, token)?),
+            None => take_in_cell(cells, tokens, columns - 1, at, at, token),
         },
-        Position::InCell(left, start) => Ok(take_in_cell(cells, tokens, left, start, at, token)?),
+        Position::InCell(left, start) => take_in_cell(cells, tokens, left, start, at, token),
         Position::InTail(tail) => Ok(take_after(tail, token.kind).into()),
     }
 }

@@ -9,7 +9,7 @@ use fs_kinds::MOST_DEPTH;
 use std::alloc::{AllocError, Global};
 
 /// What joins two parts of a condition.
-#[derive(Clone, Copy, Debug)]
+#[derive(Clone, Copy)]
 pub enum Connective {
     And,
     Or,

@@ -1,25 +1,10 @@
-use Rattle.std.proofs.Common.{sym, subst, arith}
+use Rattle.std.proofs.Common.{sym, subst}
 use Rattle.fs_litmus_syntax.specs.Labels.{IsLabelFault}
 use Rattle.fs_kinds.specs.FaultOrder.{IsFirstOf}
 use Rattle.fs_litmus_syntax.proofs.CodeLemmas.{label_first}
-use Rattle.fs_litmus_syntax.proofs.HartLemmas.{short_is, long_is}
 use Rattle.fs_litmus_syntax.proofs.hart.read_listing.Goals as goal
 
-pub returns-in-Some : goal.returns-in-Some
-returns-in-Some c =
+pub code_of-requires-clause-first : goal.code_of-requires-clause-first
+code_of-requires-clause-first c =
     let hart = c.args.listing.now in
-    subst (λ o. IsFirstOf (IsLabelFault hart) o) (sym c.in-Some.ensures) (label_first hart _ _ c.in_ok-positions.ensures.twice c.first_stray-stray.ensures)
-
-pub returns-then-count-gt-MOST_INSTRUCTIONS : goal.returns-then-count-gt-MOST_INSTRUCTIONS
-returns-then-count-gt-MOST_INSTRUCTIONS c =
-    let hart = c.args.listing.now in
-    let clean = subst (λ o. IsFirstOf (IsLabelFault hart) o) (sym c.in_default.ensures) (label_first hart _ _ c.in_ok-positions.ensures.twice c.first_stray-stray.ensures) in
-    long_is hart c.instruction_count-count.result clean c.instruction_count-count.ensures c.if-count-gt-MOST_INSTRUCTIONS.true
-
-pub returns : goal.returns
-returns c =
-    let hart = c.args.listing.now in
-    let clean = subst (λ o. IsFirstOf (IsLabelFault hart) o) (sym c.in_default.ensures) (label_first hart _ _ c.in_ok-positions.ensures.twice c.first_stray-stray.ensures) in
-    let same = c.instruction_count-count.ensures in
-    let most = c.if-count-gt-MOST_INSTRUCTIONS.false in
-    short_is hart _ clean c.in_ok-code.ensures (omega arith)
+    subst (λ o. IsFirstOf (IsLabelFault hart) o) (sym c.earliest.ensures) (label_first hart _ _ c.in_ok-positions.ensures.twice c.first_stray-stray.ensures)
