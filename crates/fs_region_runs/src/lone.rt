@@ -6,10 +6,12 @@ ghost use Rattle.std.specs.Option.{option_copied};
 ghost use Rattle.fs_kinds.specs.declared.fault.Fault.TheVariants.{Memory};
 ghost use Rattle.fs_model.specs.Numbers.{is_same};
 ghost use Rattle.fs_model.specs.OfTests.{program_of};
+ghost use Rattle.fs_model.specs.Operations.{steps_of};
 ghost use Rattle.fs_model.specs.Test.{IsBounded};
 ghost use Rattle.fs_model.specs.Preserved.{Rule, Rule8};
 ghost use Rattle.fs_model.specs.Shows.{final_register};
 ghost use Rattle.fs_ppo.specs.Rules.{number_of as number_of_rule};
+ghost use Rattle.fs_hart.specs.Steps.{steps_in};
 ghost use Rattle.fs_cert_evidence.specs.Regions.{Region, step_at, address_at, loaded_at, stored_at, loads_at};
 ghost use Rattle.fs_cert_evidence.specs.Musts.{traces_of, number_of, is_rule};
 ghost use Rattle.fs_cert_evidence.specs.Splits.{chosen_at};
@@ -17,6 +19,7 @@ ghost use Rattle.fs_region_runs.specs.Alone.{IsRun, Knows, execution_of};
 ghost use Rattle.fs_region_runs.specs.declared.doings.Doing.{Doing};
 ghost use Rattle.fs_region_runs.specs.Beside.{doing_of, IsBeside};
 ghost use Rattle.fs_region_runs.specs.inner.Ordered.{IsOwn, number_from, is_unnamed, count_as_one};
+ghost use Rattle.fs_region_runs.specs.inner.Tables.{IsReady};
 
 use crate::choice::choice_number;
 use crate::doings::{Doing, Doings};
@@ -44,6 +47,27 @@ struct Made {
     places: Table,
     // And the number of the operation that this is.
     numbers: Table,
+}
+
+/// The run of the hart, and what stands where in it. The error is F19.
+fn made_of(alloc: Global, test: &Test, hart: u8, trace: Trace) -> Result<Made, Fault>
+    requires test { IsBounded test.now }
+    requires run { IsRun test.now hart trace }
+    ensures ready { IfOk result (λ made. IsReady test.now hart made.candidate made.places.items made.numbers.items) }
+    ensures steps { IfOk result (λ made. steps_of (steps_in made.candidate.traces) hart ≡ trace.steps) }
+    ensures err { IsOkUnless result Memory }
+{
+    let candidate = candidate_of(alloc, test, hart, trace)?;
+    let positions = code_of(test, hart).len();
+    let steps = steps_of(candidate.traces.as_slice(), Some(hart));
+    let operations = candidate.operations.as_slice();
+    let places = places(alloc, positions, steps)?;
+    let numbers = numbers(alloc, positions, hart, steps, operations)?;
+    Ok(Made {
+        candidate,
+        places,
+        numbers,
+    })
 }
 
 /// One run of one hart of a test, made ready to be asked what it does at each position of the code, and which rules of
@@ -111,17 +135,7 @@ impl Lone {
             lone ≡ record { test = arc_value test.now; hart = hart; steps = trace.steps }) }
         ensures err { IsOkUnless result Memory }
     {
-        let candidate = candidate_of(alloc, test, hart, trace)?;
-        let positions = code_of(test, hart).len();
-        let steps = steps_of(candidate.traces.as_slice(), Some(hart));
-        let operations = candidate.operations.as_slice();
-        let places = places(alloc, positions, steps)?;
-        let numbers = numbers(alloc, positions, hart, steps, operations)?;
-        let made = Made {
-            candidate,
-            places,
-            numbers,
-        };
+        let made = made_of(alloc, test, hart, trace)?;
         Ok(Lone {
             test: shared(test)?,
             hart,
