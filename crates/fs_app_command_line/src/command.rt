@@ -714,12 +714,17 @@ pub struct CheckSites<'a> {
 /// `audit` takes its prices behind its files, also where an option stands between one file and them; so do `solve` and
 /// `check` with `--sites`.
 pub fn read_request<'a>(alloc: Global, words: &'a [String]) -> Result<Request<'a>, Error> {
-    let has_sites = asks_for_sites(words);
-    let matches = match whole_command(alloc, true, has_sites)?.try_get_matches_from(words) {
-        Ok(matches) => matches,
-        Err(error) => matches_of_one(alloc, words, error)?,
-    };
+    let matches = matches_of(alloc, words)?;
     Ok(request_of(alloc, &matches)?)
+}
+
+/// What the words match.
+fn matches_of<'a>(alloc: Global, words: &'a [String]) -> Result<ArgMatches<'a>, Error> {
+    let program = whole_command(alloc, true, asks_for_sites(words))?;
+    match program.try_get_matches_from(words) {
+        Ok(matches) => Ok(matches),
+        Err(error) => matches_of_one(alloc, words, error),
+    }
 }
 
 /// Is `--sites` one of the words before `--`?
@@ -746,8 +751,15 @@ fn matches_of_one<'a>(
     }
     match whole_command(alloc, false, false)?.try_get_matches_from(words) {
         Ok(matches) => Ok(matches),
-        Err(other) if matches!(error.kind(), ErrorKind::MissingRequiredArgument) => Err(other),
-        Err(_) => Err(error),
+        Err(other) => Err(clearer(error, other)),
+    }
+}
+
+/// The first of the errors, but where it says that words are missing.
+fn clearer(error: Error, other: Error) -> Error {
+    match error.kind() {
+        ErrorKind::MissingRequiredArgument => other,
+        _ => error,
     }
 }
 
@@ -763,29 +775,53 @@ fn request_of<'a>(alloc: Global, matches: &ArgMatches<'a>) -> Result<Request<'a>
 /// What the command of this name is to do.
 fn task_of<'a>(alloc: Global, name: &str, found: &ArgMatches<'a>) -> Result<Task<'a>, AllocError> {
     match name {
-        "test" => Ok(Task::Test(test_of(alloc, found)?)),
-        "states" => Ok(Task::States(states_of(alloc, found)?)),
-        "order" => Ok(Task::Order(order_of(alloc, found)?)),
-        "solve" if found.get_flag("sites") => Ok(Task::Sites(sites_of(alloc, found)?)),
-        "solve" => Ok(Task::Solve(solve_of(found))),
-        "audit" if found.get_flag("sites") => Ok(Task::AuditSites(audit_sites_of(alloc, found)?)),
-        "audit" => Ok(Task::Audit(audit_of(alloc, found)?)),
-        "check" if found.get_flag("sites") => Ok(Task::CheckSites(check_sites_of(alloc, found)?)),
-        "check" => Ok(Task::Check(check_of(found))),
+        "test" => test_of(alloc, found),
+        "states" => states_of(alloc, found),
+        "order" => order_of(alloc, found),
+        "solve" => solve_or_sites_of(alloc, found),
+        "audit" => audit_or_sites_of(alloc, found),
+        "check" => check_or_sites_of(alloc, found),
         "completions" => Ok(Task::Completions(shell_of(found))),
-        _ => Ok(Task::Place(place_of(alloc, found)?)),
+        _ => place_of(alloc, found),
     }
 }
 
-fn test_of<'a>(alloc: Global, found: &ArgMatches<'a>) -> Result<Test<'a>, AllocError> {
-    Ok(Test {
+/// What `solve` is to do, with `--sites` or without.
+fn solve_or_sites_of<'a>(alloc: Global, found: &ArgMatches<'a>) -> Result<Task<'a>, AllocError> {
+    if found.get_flag("sites") {
+        sites_of(alloc, found)
+    } else {
+        Ok(Task::Solve(solve_of(found)))
+    }
+}
+
+/// The same of `audit`.
+fn audit_or_sites_of<'a>(alloc: Global, found: &ArgMatches<'a>) -> Result<Task<'a>, AllocError> {
+    if found.get_flag("sites") {
+        audit_sites_of(alloc, found)
+    } else {
+        audit_of(alloc, found)
+    }
+}
+
+/// The same of `check`.
+fn check_or_sites_of<'a>(alloc: Global, found: &ArgMatches<'a>) -> Result<Task<'a>, AllocError> {
+    if found.get_flag("sites") {
+        check_sites_of(alloc, found)
+    } else {
+        Ok(Task::Check(check_of(found)))
+    }
+}
+
+fn test_of<'a>(alloc: Global, found: &ArgMatches<'a>) -> Result<Task<'a>, AllocError> {
+    Ok(Task::Test(Test {
         files: words_of(alloc, found, "FILE")?,
         expect: expectations_of(found),
         jobs: found.get_one::<u8>("jobs").unwrap_or(ONE_WORKER),
         json: found.get_flag("json"),
         why: why_of(found),
         dot: found.get_str("dot"),
-    })
+    }))
 }
 
 /// By `--why` or `--why=WHICH`.
@@ -812,16 +848,16 @@ fn expectations_of<'a>(found: &ArgMatches<'a>) -> Option<Expectations<'a>> {
     }
 }
 
-fn states_of<'a>(alloc: Global, found: &ArgMatches<'a>) -> Result<States<'a>, AllocError> {
+fn states_of<'a>(alloc: Global, found: &ArgMatches<'a>) -> Result<Task<'a>, AllocError> {
     let (files, fences) = files_and_fences(alloc, found.get_strs("FILE").unwrap_or(&[]))?;
-    Ok(States {
+    Ok(Task::States(States {
         files,
         fences,
         all: found.get_flag("all"),
         witnesses: found.get_flag("witnesses"),
         json: found.get_flag("json"),
         log: found.get_str("log"),
-    })
+    }))
 }
 
 /// The words that name files, and those that are FENCE words. The first is a file's.
@@ -832,11 +868,10 @@ fn files_and_fences(
     let mut files = Vec::new(alloc);
     let mut fences = Vec::new(alloc);
     for word in words {
-        let copy = String::from_str(alloc, word)?;
         if !files.is_empty() && is_fence(word) {
-            fences.push(copy)?;
+            push_copy(alloc, &mut fences, word)?;
         } else {
-            files.push(copy)?;
+            push_copy(alloc, &mut files, word)?;
         }
     }
     Ok((files, fences))
@@ -850,18 +885,18 @@ fn is_fence(word: &str) -> bool {
     }
 }
 
-fn place_of<'a>(alloc: Global, found: &ArgMatches<'a>) -> Result<Place<'a>, AllocError> {
-    Ok(Place {
+fn place_of<'a>(alloc: Global, found: &ArgMatches<'a>) -> Result<Task<'a>, AllocError> {
+    Ok(Task::Place(Place {
         test: found.get_str("FILE").unwrap_or(""),
         fences: fences_of(alloc, found)?,
         prices: found.get_str("prices"),
         sites: found.get_flag("sites"),
         free: found.get_flag("free"),
-    })
+    }))
 }
 
-fn order_of<'a>(alloc: Global, found: &ArgMatches<'a>) -> Result<Order<'a>, AllocError> {
-    Ok(Order {
+fn order_of<'a>(alloc: Global, found: &ArgMatches<'a>) -> Result<Task<'a>, AllocError> {
+    Ok(Task::Order(Order {
         test: found.get_str("FILE").unwrap_or(""),
         witness: found.get_str("WITNESS").unwrap_or(""),
         fences: fences_of(alloc, found)?,
@@ -869,7 +904,7 @@ fn order_of<'a>(alloc: Global, found: &ArgMatches<'a>) -> Result<Order<'a>, Allo
         free: found.get_flag("free"),
         why: found.get_flag("why"),
         dot: found.get_str("dot"),
-    })
+    }))
 }
 
 fn solve_of<'a>(found: &ArgMatches<'a>) -> Solve<'a> {
@@ -886,8 +921,8 @@ fn solve_of<'a>(found: &ArgMatches<'a>) -> Solve<'a> {
     }
 }
 
-fn sites_of<'a>(alloc: Global, found: &ArgMatches<'a>) -> Result<Sites<'a>, AllocError> {
-    Ok(Sites {
+fn sites_of<'a>(alloc: Global, found: &ArgMatches<'a>) -> Result<Task<'a>, AllocError> {
+    Ok(Task::Sites(Sites {
         files: words_of(alloc, found, "FILE")?,
         prices: found.get_str("PRICES").unwrap_or(""),
         free: found.get_flag("free"),
@@ -895,11 +930,11 @@ fn sites_of<'a>(alloc: Global, found: &ArgMatches<'a>) -> Result<Sites<'a>, Allo
         nodes: found.get_one::<u32>("nodes").unwrap_or(MOST_NODES),
         certificate: found.get_str("cert"),
         json: found.get_flag("json"),
-    })
+    }))
 }
 
-fn audit_of<'a>(alloc: Global, found: &ArgMatches<'a>) -> Result<Audit<'a>, AllocError> {
-    Ok(Audit {
+fn audit_of<'a>(alloc: Global, found: &ArgMatches<'a>) -> Result<Task<'a>, AllocError> {
+    Ok(Task::Audit(Audit {
         files: words_of(alloc, found, "FILE")?,
         prices: found.get_str("PRICES").unwrap_or(""),
         anew: found.get_flag("anew"),
@@ -909,16 +944,16 @@ fn audit_of<'a>(alloc: Global, found: &ArgMatches<'a>) -> Result<Audit<'a>, Allo
         jobs: found.get_one::<u8>("jobs").unwrap_or(ONE_WORKER),
         nodes: found.get_one::<u32>("nodes").unwrap_or(MOST_NODES),
         why: why_of(found),
-    })
+    }))
 }
 
-fn audit_sites_of<'a>(alloc: Global, found: &ArgMatches<'a>) -> Result<AuditSites<'a>, AllocError> {
-    Ok(AuditSites {
+fn audit_sites_of<'a>(alloc: Global, found: &ArgMatches<'a>) -> Result<Task<'a>, AllocError> {
+    Ok(Task::AuditSites(AuditSites {
         files: words_of(alloc, found, "FILE")?,
         prices: found.get_str("PRICES").unwrap_or(""),
         json: found.get_flag("json"),
         nodes: found.get_one::<u32>("nodes").unwrap_or(MOST_NODES),
-    })
+    }))
 }
 
 fn check_of<'a>(found: &ArgMatches<'a>) -> Check<'a> {
@@ -933,19 +968,19 @@ fn check_of<'a>(found: &ArgMatches<'a>) -> Check<'a> {
 }
 
 /// Behind its files stand its prices.
-fn check_sites_of<'a>(alloc: Global, found: &ArgMatches<'a>) -> Result<CheckSites<'a>, AllocError> {
+fn check_sites_of<'a>(alloc: Global, found: &ArgMatches<'a>) -> Result<Task<'a>, AllocError> {
     let words = found.get_strs("FILE").unwrap_or(&[]);
     let (prices, files) = match words.split_last() {
         Some((prices, files)) => (*prices, files),
         None => ("", words),
     };
-    Ok(CheckSites {
+    Ok(Task::CheckSites(CheckSites {
         files: copies_of(alloc, files)?,
         prices,
         certificate: found.get_str("CERTIFICATE").unwrap_or(""),
         free: found.get_flag("free"),
         json: found.get_flag("json"),
-    })
+    }))
 }
 
 fn shell_of(found: &ArgMatches<'_>) -> Shell {
@@ -968,63 +1003,57 @@ fn words_of(alloc: Global, found: &ArgMatches<'_>, name: &str) -> Result<Vec<Str
 fn copies_of(alloc: Global, words: &[&str]) -> Result<Vec<String>, AllocError> {
     let mut copies = Vec::new(alloc);
     for word in words {
-        copies.push(String::from_str(alloc, word)?)?;
+        push_copy(alloc, &mut copies, word)?;
     }
     Ok(copies)
 }
 
-// ---- the commands, and what each takes
-
-/// A command.
-struct Entry {
-    name: &'static str,
-    about: &'static str,
-    help: &'static str,
+fn push_copy(alloc: Global, copies: &mut Vec<String>, word: &str) -> Result<(), AllocError> {
+    copies.push(String::from_str(alloc, word)?)?;
+    Ok(())
 }
 
-/// In the order in which help lists them.
-const COMMANDS: [Entry; 8] = [
-    Entry {
-        name: "test",
-        about: TEST_ABOUT,
-        help: TEST_HELP,
-    },
-    Entry {
-        name: "solve",
-        about: SOLVE_ABOUT,
-        help: SOLVE_HELP,
-    },
-    Entry {
-        name: "audit",
-        about: AUDIT_ABOUT,
-        help: AUDIT_HELP,
-    },
-    Entry {
-        name: "states",
-        about: STATES_ABOUT,
-        help: STATES_HELP,
-    },
-    Entry {
-        name: "place",
-        about: PLACE_ABOUT,
-        help: PLACE_HELP,
-    },
-    Entry {
-        name: "order",
-        about: ORDER_ABOUT,
-        help: ORDER_HELP,
-    },
-    Entry {
-        name: "check",
-        about: CHECK_ABOUT,
-        help: CHECK_HELP,
-    },
-    Entry {
-        name: "completions",
-        about: COMPLETIONS_ABOUT,
-        help: COMPLETIONS_HELP,
-    },
+// ---- the commands, and what each takes
+
+/// The names of the commands, in the order in which help lists them.
+const COMMANDS: [&str; 8] = [
+    "test",
+    "solve",
+    "audit",
+    "states",
+    "place",
+    "order",
+    "check",
+    "completions",
 ];
+
+/// What a command is for, in a line.
+fn about_of(command: &str) -> &'static str {
+    match command {
+        "test" => TEST_ABOUT,
+        "solve" => SOLVE_ABOUT,
+        "audit" => AUDIT_ABOUT,
+        "states" => STATES_ABOUT,
+        "place" => PLACE_ABOUT,
+        "order" => ORDER_ABOUT,
+        "check" => CHECK_ABOUT,
+        _ => COMPLETIONS_ABOUT,
+    }
+}
+
+/// What the help of a command says below its arguments.
+fn help_of(command: &str) -> &'static str {
+    match command {
+        "test" => TEST_HELP,
+        "solve" => SOLVE_HELP,
+        "audit" => AUDIT_HELP,
+        "states" => STATES_HELP,
+        "place" => PLACE_HELP,
+        "order" => ORDER_HELP,
+        "check" => CHECK_HELP,
+        _ => COMPLETIONS_HELP,
+    }
+}
 
 /// What an argument is.
 #[derive(Clone, Copy)]
@@ -1592,15 +1621,20 @@ fn whole_command<'a>(
     has_sites: bool,
 ) -> Result<Command<'a>, AllocError> {
     let mut program = bare_program(alloc);
-    for entry in &COMMANDS {
-        let many = match entry.name {
-            "audit" => audits_many,
-            "solve" | "check" => has_sites,
-            _ => true,
-        };
-        program = with_command(alloc, program, entry, many)?;
+    for name in &COMMANDS {
+        let many = takes_many(name, audits_many, has_sites);
+        program = with_command(alloc, program, name, many)?;
     }
     Ok(program)
+}
+
+/// Does the command of this name take any number of files?
+fn takes_many(name: &str, audits_many: bool, has_sites: bool) -> bool {
+    match name {
+        "audit" => audits_many,
+        "solve" | "check" => has_sites,
+        _ => true,
+    }
 }
 
 /// The program without its commands.
@@ -1616,21 +1650,26 @@ fn bare_program<'a>(alloc: Global) -> Command<'a> {
 fn with_command<'a>(
     alloc: Global,
     program: Command<'a>,
-    entry: &Entry,
+    name: &'a str,
     many: bool,
 ) -> Result<Command<'a>, AllocError> {
-    program.subcommand(command_of(alloc, entry, many)?)
+    program.subcommand(command_of(alloc, name, many)?)
 }
 
 /// The command, which takes one file or any number.
-fn command_of<'a>(alloc: Global, entry: &Entry, many: bool) -> Result<Command<'a>, AllocError> {
-    let mut command = bare_command(alloc, entry);
+fn command_of<'a>(alloc: Global, name: &'a str, many: bool) -> Result<Command<'a>, AllocError> {
+    let mut command = bare_command(alloc, name);
     for parameter in &PARAMETERS {
-        if parameter.command == entry.name && !(many && is_among_files(parameter)) {
+        if is_of(parameter, name, many) {
             command = with_argument(alloc, command, parameter, many)?;
         }
     }
     with_voice(alloc, command)
+}
+
+/// Is it an argument of the command of this name, which takes one file or any number?
+fn is_of(parameter: &Parameter, command: &str, many: bool) -> bool {
+    parameter.command == command && !(many && is_among_files(parameter))
 }
 
 /// Does it stand among the files where many are taken? No more than one argument but the last takes many words.
@@ -1639,10 +1678,10 @@ fn is_among_files(parameter: &Parameter) -> bool {
 }
 
 /// The command without its arguments.
-fn bare_command<'a>(alloc: Global, entry: &Entry) -> Command<'a> {
-    Command::new(alloc, entry.name)
-        .about(entry.about)
-        .after_help(entry.help)
+fn bare_command<'a>(alloc: Global, name: &'a str) -> Command<'a> {
+    Command::new(alloc, name)
+        .about(about_of(name))
+        .after_help(help_of(name))
 }
 
 /// The command with this argument.
@@ -1674,7 +1713,7 @@ fn argument_of<'a>(
         }
     }
     match parameter.form {
-        Form::OfSites => Ok(argument.requires_arg("sites")?),
+        Form::OfSites => argument.requires_arg("sites"),
         _ => Ok(argument),
     }
 }

@@ -80,30 +80,46 @@ fn quoted(alloc: Global, text: &str) -> Result<String, AllocError> {
 
 fn write_bash(program: &Command<'_>, text: &mut String) -> Result<(), AllocError> {
     text.push_str(BASH_HEAD)?;
-    text.push_str("        '0 '*) options='--help --version' values='")?;
-    for command in program.get_subcommands() {
-        write!(text, "{} ", command.get_name())?;
-    }
-    text.push_str("help' ;;\n")?;
+    write_bash_commands(program, text)?;
     for command in program.get_subcommands() {
         write_bash_case(command, text)?;
     }
     text.push_str(BASH_TAIL)
 }
 
+/// The names of the commands.
+fn write_bash_commands(program: &Command<'_>, text: &mut String) -> Result<(), AllocError> {
+    text.push_str("        '0 '*) options='--help --version' values='")?;
+    for command in program.get_subcommands() {
+        write!(text, "{} ", command.get_name())?;
+    }
+    text.push_str("help' ;;\n")
+}
+
 /// The options of a command, and the names that an argument of it may be.
 fn write_bash_case(command: &Command<'_>, text: &mut String) -> Result<(), AllocError> {
     write!(text, "        '1 {}') options='", command.get_name())?;
     for argument in command.get_arguments() {
-        if let Some(name) = argument.get_long() {
-            write!(text, "--{} ", name)?;
-        }
+        write_bash_option(argument, text)?;
     }
     text.push_str("--help' values='")?;
+    write_all_names(command, text)?;
+    text.push_str("' ;;\n")
+}
+
+fn write_bash_option(argument: &Arg<'_>, text: &mut String) -> Result<(), AllocError> {
+    match argument.get_long() {
+        Some(name) => write!(text, "--{} ", name),
+        None => Ok(()),
+    }
+}
+
+/// The names that an argument of the command may be.
+fn write_all_names(command: &Command<'_>, text: &mut String) -> Result<(), AllocError> {
     for argument in command.get_arguments() {
         write_names(argument, text)?;
     }
-    text.push_str("' ;;\n")
+    Ok(())
 }
 
 /// The names of which the argument must be one, where it must, with a blank behind each.
@@ -118,23 +134,40 @@ fn write_names(argument: &Arg<'_>, text: &mut String) -> Result<(), AllocError> 
 
 fn write_zsh(alloc: Global, program: &Command<'_>, text: &mut String) -> Result<(), AllocError> {
     text.push_str(ZSH_HEAD)?;
-    text.push_str(
-        "        '0 '*)\n            options=(--help --version)\n            values=(\n",
-    )?;
-    for command in program.get_subcommands() {
-        let about = quoted(alloc, command.get_about().unwrap_or(""))?;
-        writeln!(
-            text,
-            "                '{}:{}'",
-            command.get_name(),
-            about.as_str()
-        )?;
-    }
-    text.push_str("                help\n            ) ;;\n")?;
+    write_zsh_commands(alloc, program, text)?;
     for command in program.get_subcommands() {
         write_zsh_case(alloc, command, text)?;
     }
     text.push_str(ZSH_TAIL)
+}
+
+/// The same as `write_bash_commands`, with what each command answers.
+fn write_zsh_commands(
+    alloc: Global,
+    program: &Command<'_>,
+    text: &mut String,
+) -> Result<(), AllocError> {
+    text.push_str(
+        "        '0 '*)\n            options=(--help --version)\n            values=(\n",
+    )?;
+    for command in program.get_subcommands() {
+        write_zsh_command(alloc, command, text)?;
+    }
+    text.push_str("                help\n            ) ;;\n")
+}
+
+fn write_zsh_command(
+    alloc: Global,
+    command: &Command<'_>,
+    text: &mut String,
+) -> Result<(), AllocError> {
+    let about = quoted(alloc, command.get_about().unwrap_or(""))?;
+    writeln!(
+        text,
+        "                '{}:{}'",
+        command.get_name(),
+        about.as_str()
+    )
 }
 
 /// The same as `write_bash_case`, with what each option is for.
@@ -152,9 +185,7 @@ fn write_zsh_case(
         write_zsh_option(alloc, argument, text)?;
     }
     text.push_str("                --help\n            )\n            values=(")?;
-    for argument in command.get_arguments() {
-        write_names(argument, text)?;
-    }
+    write_all_names(command, text)?;
     text.push_str(") ;;\n")
 }
 
@@ -173,20 +204,48 @@ fn write_zsh_option(
 fn write_fish(alloc: Global, program: &Command<'_>, text: &mut String) -> Result<(), AllocError> {
     text.push_str(FISH_HEAD)?;
     for command in program.get_subcommands() {
-        let about = quoted(alloc, command.get_about().unwrap_or(""))?;
-        writeln!(
-            text,
-            "complete -c rvfence -n __fish_use_subcommand -f -a {} -d '{}'",
-            command.get_name(),
-            about.as_str()
-        )?;
+        write_fish_command(alloc, command, text)?;
     }
     for command in program.get_subcommands() {
-        for argument in command.get_arguments() {
-            write_fish_argument(alloc, command.get_name(), argument, text)?;
-        }
+        write_fish_arguments(alloc, command, text)?;
     }
     Ok(())
+}
+
+/// A line for a command.
+fn write_fish_command(
+    alloc: Global,
+    command: &Command<'_>,
+    text: &mut String,
+) -> Result<(), AllocError> {
+    let about = quoted(alloc, command.get_about().unwrap_or(""))?;
+    writeln!(
+        text,
+        "complete -c rvfence -n __fish_use_subcommand -f -a {} -d '{}'",
+        command.get_name(),
+        about.as_str()
+    )
+}
+
+/// The lines for the arguments of a command.
+fn write_fish_arguments(
+    alloc: Global,
+    command: &Command<'_>,
+    text: &mut String,
+) -> Result<(), AllocError> {
+    for argument in command.get_arguments() {
+        write_fish_argument(alloc, command.get_name(), argument, text)?;
+    }
+    Ok(())
+}
+
+/// How each line begins that is for an argument of this command.
+fn write_fish_begin(command: &str, text: &mut String) -> Result<(), AllocError> {
+    write!(
+        text,
+        "complete -c rvfence -n '__fish_seen_subcommand_from {}'",
+        command
+    )
 }
 
 /// A line for an argument of the command that must be one of some names.
@@ -198,11 +257,8 @@ fn write_fish_names(
     if !has_names(argument) {
         return Ok(());
     }
-    write!(
-        text,
-        "complete -c rvfence -n '__fish_seen_subcommand_from {}' -f -a '",
-        command
-    )?;
+    write_fish_begin(command, text)?;
+    text.push_str(" -f -a '")?;
     write_names(argument, text)?;
     text.push_str("'\n")
 }
@@ -217,17 +273,19 @@ fn write_fish_argument(
     let Some(name) = argument.get_long() else {
         return write_fish_names(command, argument, text);
     };
+    write_fish_begin(command, text)?;
+    write_fish_form(argument, text)?;
     let help = quoted(alloc, argument.get_help().unwrap_or(""))?;
-    write!(
-        text,
-        "complete -c rvfence -n '__fish_seen_subcommand_from {}'",
-        command
-    )?;
+    writeln!(text, " -l {} -d '{}'", name, help.as_str())
+}
+
+/// The letter of an option, where it has one, and whether it takes a value.
+fn write_fish_form(argument: &Arg<'_>, text: &mut String) -> Result<(), AllocError> {
     if let Some(short) = argument.get_short() {
         write!(text, " -s {}", short)?;
     }
     if argument.get_action().takes_values() {
         text.push_str(" -r")?;
     }
-    writeln!(text, " -l {} -d '{}'", name, help.as_str())
+    Ok(())
 }
