@@ -1,12 +1,12 @@
 //! Reads a condition once, from left to right.
 
-ghost use Rattle.std.specs.Prelude.{◌≡◌, ◌<◌, ◌+◌, ◌++◌, [], Some, None, IfOk, IfErr, OnOk, map, option_map};
+ghost use Rattle.std.specs.Prelude.{◌≡◌, ◌<◌, ◌+◌, ◌∷◌, ◌++◌, [], Some, None, IfOk, IfErr, OnOk, map, option_map};
 ghost use Rattle.fs_litmus_tokens.specs.Tokens.{kind_of, views};
 ghost use Rattle.fs_litmus_syntax.specs.Grammar.{Syntax, IsCondition};
 ghost use Rattle.fs_litmus_syntax.specs.Answer.{Means, StopsAt};
 ghost use Rattle.fs_litmus_tokens.specs.Values.{target_of, value_of};
 ghost use Rattle.fs_litmus_syntax.specs.Machine.{next_begin, next_after, found_unit, closed, completed};
-ghost use Rattle.fs_litmus_syntax.specs.Machine.{word_begun, mark_begun, named_or, compared_by, with_denial, implied};
+ghost use Rattle.fs_litmus_syntax.specs.Machine.{word_begun, mark_begun, named_or, compared_by, with_denial, implied, empty};
 ghost use Rattle.fs_litmus_syntax.specs.Machine.{word_place, placed_or, placed, is_greater, with_premise, said, Begin};
 ghost use Rattle.fs_litmus_syntax.specs.Machine.{finished, next_atom, at, atoms_at, put_off, place_after, whole_of};
 ghost use Rattle.fs_litmus_syntax.specs.Machine.{next, end_at, end_of, read, start};
@@ -68,33 +68,39 @@ fn begin_word<'a>(kind: Kind<'a>) -> Option<Place<'a>>
     }
 }
 
+/// An opening parenthesis before a unit.
+fn begin_parenthesis<'a>(
+    layer: Layer<'a>,
+    mut below: Vec<Layer<'a>>,
+) -> Result<Option<Reader<'a>>, AllocError>
+    ensures { IfOk result (λ r. option_map reader_of r
+        ≡ Some (at Begin empty (layer_of layer.entry ∷ below_of below.entry.items []))) }
+{
+    below.push(layer)?;
+    Ok(Some(Reader {
+        place: Place::Begin,
+        layer: Layer::new(),
+        below,
+    }))
+}
+
 /// A denial, or an opening parenthesis, before a unit.
 fn begin_mark<'a>(
     layer: Layer<'a>,
-    mut below: Vec<Layer<'a>>,
+    below: Vec<Layer<'a>>,
     kind: Kind<'a>,
 ) -> Result<Option<Reader<'a>>, AllocError>
     requires { layer.denials < usize.MAX }
     ensures { IfOk result (λ r. option_map reader_of r
         ≡ mark_begun (layer_of layer.entry) (below_of below.entry.items []) (kind_of kind.entry)) }
 {
-    let Kind::Sign(mark) = kind else {
-        return Ok(None);
-    };
-    match mark {
-        Mark::Tilde => Ok(Some(Reader {
+    match kind {
+        Kind::Sign(Mark::Tilde) => Ok(Some(Reader {
             place: Place::Begin,
             layer: layer.with_denial(),
             below,
         })),
-        Mark::OpenParen => {
-            below.push(layer)?;
-            Ok(Some(Reader {
-                place: Place::Begin,
-                layer: Layer::new(),
-                below,
-            }))
-        }
+        Kind::Sign(Mark::OpenParen) => begin_parenthesis(layer, below),
         _ => Ok(None),
     }
 }
