@@ -14,6 +14,7 @@ ghost use Rattle.fs_region_refutation.specs.inner.Each.{AreNames, is_ending, sto
 ghost use Rattle.fs_region_refutation.specs.inner.Each.{may_all_with, registers_each, ends_each};
 
 use crate::basis::Basis;
+use crate::filters::is_same;
 use crate::musts::{Access, accesses, must_be};
 use crate::parted::{Names, parted_names};
 use crate::region::Region;
@@ -57,8 +58,7 @@ fn passes(ending: Ending, word: Option<u32>) -> bool
 fn stores_such(run: &Lone, name: OperationName, location: u8, ending: Ending) -> bool
     ensures { result ≡ stores_such location (is_ending ending) name run.now.steps }
 {
-    run.address_at(name.at)
-        .is_some_and(|address| address == Location::address(location))
+    is_same(run.address_at(name.at), Some(Location::address(location)))
         && passes(ending, run.stored_at(name.at))
 }
 

@@ -52,7 +52,7 @@ pub(crate) fn not_loading<'a>(
 }
 
 /// Both are there, and the same.
-fn is_same(word: Option<u32>, other: Option<u32>) -> bool
+pub(crate) fn is_same(word: Option<u32>, other: Option<u32>) -> bool
     ensures { result ≡ is_same word other }
 {
     match (word, other) {

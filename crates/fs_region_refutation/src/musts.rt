@@ -9,6 +9,7 @@ ghost use Rattle.fs_region_refutation.specs.Orders.{OrdersAll};
 ghost use Rattle.fs_region_refutation.specs.inner.Asked.{PairsAll};
 
 use crate::basis::Basis;
+use crate::filters::is_same;
 use crate::region::Region;
 use fs_kinds::{OperationName, Placement};
 use fs_model::Location;
@@ -36,9 +37,7 @@ pub(crate) fn accesses(run: &Lone, access: Access, at: u8, location: u8) -> bool
     ensures { result ≡ accesses_at (access_of access) at location run.now.steps }
 {
     accessed(run, access, at).is_some()
-        && run
-            .address_at(at)
-            .is_some_and(|address| address == Location::address(location))
+        && is_same(run.address_at(at), Some(Location::address(location)))
 }
 
 /// Does each of the runs?
