@@ -187,95 +187,93 @@ fn make_board<R: Print>(
     ask_board(rt, alloc, &question, &problem, limit, asks)
 }
 
-/// A slot of store buffering.
-const fn slot(hart: u8) -> Slot {
-    Slot { hart, at: 2 }
-}
+/// The slots of store buffering.
+const SLOT_0: Slot = Slot { hart: 0, at: 2 };
 
-/// Two workers on a board of store buffering, with all replies but those of the other boards; and the first calls on a
-/// board that is full by one node sooner.
-fn make_first<R: Print>(rt: &R, alloc: Global) -> Result<(), Fault> {
-    let asks = [
-        (0, Request::Take),
-        (1, Request::Take),
-        (0, Request::Split(0, slot(0))),
-        (1, Request::CutCost(0)),
-        (1, Request::Claim(4)),
-        (1, Request::Split(4, slot(0))),
-        (1, Request::Split(4, slot(1))),
-        (0, Request::Claim(11)),
-        (0, Request::Post(11, "P0:2=w,r P1:2=w,r")),
-        (1, Request::Claim(6)),
-        (1, Request::CutCost(6)),
-        (1, Request::Claim(13)),
-        (1, Request::CutCost(13)),
-        (0, Request::Claim(11)),
-        (0, Request::Adopt(6)),
-        (1, Request::Split(6, slot(1))),
-        (0, Request::Split(6, slot(1))),
-        (1, Request::Peek(0)),
-        (0, Request::CutBound(6, "P0:2=rw,rw")),
-    ];
-    make_board(rt, alloc, SB, PRICES, 14, &asks)?;
-    make_board(rt, alloc, SB, PRICES, 13, &asks[..7])
-}
+const SLOT_1: Slot = Slot { hart: 1, at: 2 };
+
+/// Two workers on a board of store buffering, with all replies but those of the other boards.
+const FIRST: &[(u8, Request)] = &[
+    (0, Request::Take),
+    (1, Request::Take),
+    (0, Request::Split(0, SLOT_0)),
+    (1, Request::CutCost(0)),
+    (1, Request::Claim(4)),
+    (1, Request::Split(4, SLOT_0)),
+    (1, Request::Split(4, SLOT_1)),
+    (0, Request::Claim(11)),
+    (0, Request::Post(11, "P0:2=w,r P1:2=w,r")),
+    (1, Request::Claim(6)),
+    (1, Request::CutCost(6)),
+    (1, Request::Claim(13)),
+    (1, Request::CutCost(13)),
+    (0, Request::Claim(11)),
+    (0, Request::Adopt(6)),
+    (1, Request::Split(6, SLOT_1)),
+    (0, Request::Split(6, SLOT_1)),
+    (1, Request::Peek(0)),
+    (0, Request::CutBound(6, "P0:2=rw,rw")),
+];
+
+/// The first calls on a board that is full by one node sooner.
+const FULL: &[(u8, Request)] = &[
+    (0, Request::Take),
+    (1, Request::Take),
+    (0, Request::Split(0, SLOT_0)),
+    (1, Request::CutCost(0)),
+    (1, Request::Claim(4)),
+    (1, Request::Split(4, SLOT_0)),
+    (1, Request::Split(4, SLOT_1)),
+];
 
 /// A board of message passing in order, whose root is closed by a witness.
-fn make_second<R: Print>(rt: &R, alloc: Global) -> Result<(), Fault> {
-    let asks = [
-        (0, Request::Peek(0)),
-        (0, Request::Take),
-        (1, Request::CutWitness(0, "P0:3=rw,rw P1:1=rw,rw")),
-        (0, Request::CutWitness(0, "P0:3=rw,rw P1:1=rw,rw")),
-        (1, Request::Peek(0)),
-        (1, Request::Peek(1)),
-        (1, Request::Take),
-    ];
-    make_board(rt, alloc, MP11, PRICES, 1, &asks)
-}
+const WITNESSED: &[(u8, Request)] = &[
+    (0, Request::Peek(0)),
+    (0, Request::Take),
+    (1, Request::CutWitness(0, "P0:3=rw,rw P1:1=rw,rw")),
+    (0, Request::CutWitness(0, "P0:3=rw,rw P1:1=rw,rw")),
+    (1, Request::Peek(0)),
+    (1, Request::Peek(1)),
+    (1, Request::Take),
+];
 
 /// A board of store buffering, whose root nothing closes.
-fn make_third<R: Print>(rt: &R, alloc: Global) -> Result<(), Fault> {
-    let asks = [
-        (0, Request::Take),
-        (0, Request::CutWitness(0, "")),
-        (0, Request::CutBound(0, "P0:2=w,r")),
-        (0, Request::CutBound(0, "")),
-        (1, Request::Adopt(0)),
-        (1, Request::Post(0, "P0:2=w,r P1:2=w,r")),
-    ];
-    make_board(rt, alloc, SB, PRICES, 1, &asks)
-}
+const OPEN: &[(u8, Request)] = &[
+    (0, Request::Take),
+    (0, Request::CutWitness(0, "")),
+    (0, Request::CutBound(0, "P0:2=w,r")),
+    (0, Request::CutBound(0, "")),
+    (1, Request::Adopt(0)),
+    (1, Request::Post(0, "P0:2=w,r P1:2=w,r")),
+];
+
+/// Prices by which `w,w` and `w,rw` cost as much.
+const EQUAL: &str = r#"{"w,w":2,"w,rw":2,"rw,rw":3}"#;
 
 /// A board of 2+2W, of whose placements that cost as much the bound is the first: `w,w` stands before `w,rw`. Node 8
 /// has `rw,rw` at P1:3, and so costs 5; node 5 has no fence there, and costs 2.
-fn make_fourth<R: Print>(rt: &R, alloc: Global) -> Result<(), Fault> {
-    let prices = r#"{"w,w":2,"w,rw":2,"rw,rw":3}"#;
-    let first = Slot { hart: 0, at: 3 };
-    let second = Slot { hart: 1, at: 3 };
-    let asks = [
-        (0, Request::Take),
-        (0, Request::Split(0, first)),
-        (0, Request::Claim(3)),
-        (0, Request::Split(3, second)),
-        (0, Request::Claim(7)),
-        (0, Request::Post(7, "P0:3=w,rw P1:3=w,rw")),
-        (0, Request::Claim(6)),
-        (0, Request::CutCost(6)),
-        (0, Request::Post(6, "P0:3=w,rw P1:3=w,w")),
-        (0, Request::Claim(8)),
-        (0, Request::CutCost(8)),
-        (0, Request::Claim(5)),
-        (0, Request::CutCost(5)),
-    ];
-    make_board(rt, alloc, TWO_WRITES, prices, 8, &asks)
-}
+const BOUNDED: &[(u8, Request)] = &[
+    (0, Request::Take),
+    (0, Request::Split(0, Slot { hart: 0, at: 3 })),
+    (0, Request::Claim(3)),
+    (0, Request::Split(3, Slot { hart: 1, at: 3 })),
+    (0, Request::Claim(7)),
+    (0, Request::Post(7, "P0:3=w,rw P1:3=w,rw")),
+    (0, Request::Claim(6)),
+    (0, Request::CutCost(6)),
+    (0, Request::Post(6, "P0:3=w,rw P1:3=w,w")),
+    (0, Request::Claim(8)),
+    (0, Request::CutCost(8)),
+    (0, Request::Claim(5)),
+    (0, Request::CutCost(5)),
+];
 
 /// Asks the boards.
 pub(crate) fn make<R: Print + AllocGlobal>(rt: &R) -> Result<(), Fault> {
     let alloc = rt.alloc();
-    make_first(rt, alloc)?;
-    make_second(rt, alloc)?;
-    make_third(rt, alloc)?;
-    make_fourth(rt, alloc)
+    make_board(rt, alloc, SB, PRICES, 14, FIRST)?;
+    make_board(rt, alloc, SB, PRICES, 13, FULL)?;
+    make_board(rt, alloc, MP11, PRICES, 1, WITNESSED)?;
+    make_board(rt, alloc, SB, PRICES, 1, OPEN)?;
+    make_board(rt, alloc, TWO_WRITES, EQUAL, 8, BOUNDED)
 }

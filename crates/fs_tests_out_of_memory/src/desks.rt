@@ -183,6 +183,16 @@ fn make_desk<A: Asked, R: Print + Wait>(
     ask_desk::<A, R>(rt, alloc, question, &problem, requests, kept)
 }
 
+/// What the worker asks who leaves.
+const BEFORE: &[(usize, Request)] = &[(1, Request::Take)];
+
+/// What the other one asks then.
+const AFTER: &[(usize, Request)] = &[
+    (0, Request::Take),
+    (0, Request::Adopt(0)),
+    (0, Request::Claim(0)),
+];
+
 /// A worker leaves a desk of the question with a node, which another takes over. Leaving is no event.
 fn make_left<A: Asked, R: Print + Wait>(
     rt: &R,
@@ -198,18 +208,12 @@ fn make_left<A: Asked, R: Print + Wait>(
 {
     let _ = rt.println("a desk that a worker leaves");
     let (desk, mut passes) = twice!(rt, desk_of::<A>(alloc, question, 2))?;
-    let before = [(1, Request::Take)];
-    ask_all(rt, alloc, problem, &desk, &mut passes, &before)?;
+    ask_all(rt, alloc, problem, &desk, &mut passes, BEFORE)?;
     if let Some(pass) = passes.get(1) {
         desk.leave(rt, pass);
         print_pass(rt, pass);
     }
-    let after = [
-        (0, Request::Take),
-        (0, Request::Adopt(0)),
-        (0, Request::Claim(0)),
-    ];
-    ask_all(rt, alloc, problem, &desk, &mut passes, &after)?;
+    ask_all(rt, alloc, problem, &desk, &mut passes, AFTER)?;
     print_end(rt, desk, passes);
     Ok(())
 }
@@ -235,6 +239,34 @@ fn make_two<A: Asked, R: Print>(
     Ok(())
 }
 
+/// The slots of store buffering.
+const SLOT_0: Slot = Slot { hart: 0, at: 2 };
+
+const SLOT_1: Slot = Slot { hart: 1, at: 2 };
+
+/// What two workers ask, each by its number.
+const REQUESTS: &[(usize, Request)] = &[
+    (0, Request::Take),
+    (0, Request::CutWitness(0, "")),
+    (0, Request::Split(0, SLOT_0)),
+    (1, Request::CutCost(0)),
+    (1, Request::Claim(4)),
+    (1, Request::Split(4, SLOT_0)),
+    (1, Request::Split(4, SLOT_1)),
+    (0, Request::Claim(11)),
+    (0, Request::Post(11, "P0:2=w,r P1:2=w,r")),
+    (1, Request::Claim(6)),
+    (1, Request::CutCost(6)),
+    (1, Request::Claim(13)),
+    (1, Request::CutCost(13)),
+    (0, Request::Claim(11)),
+    (0, Request::Adopt(6)),
+    (1, Request::Adopt(6)),
+    (1, Request::CutBound(6, "P0:2=rw,rw")),
+];
+
+const PEEKS: &[(usize, Request)] = &[(0, Request::Peek(0)), (1, Request::Peek(0))];
+
 /// The desks of a question.
 fn make_desks<A: Asked, R: Print + Wait>(
     rt: &R,
@@ -246,31 +278,9 @@ fn make_desks<A: Asked, R: Print + Wait>(
     requires slots { IsAtSlots A.question }
     requires limit { A.limit ≡ 14 }
 {
-    let first = Slot { hart: 0, at: 2 };
-    let second = Slot { hart: 1, at: 2 };
-    let requests = [
-        (0, Request::Take),
-        (0, Request::CutWitness(0, "")),
-        (0, Request::Split(0, first)),
-        (1, Request::CutCost(0)),
-        (1, Request::Claim(4)),
-        (1, Request::Split(4, first)),
-        (1, Request::Split(4, second)),
-        (0, Request::Claim(11)),
-        (0, Request::Post(11, "P0:2=w,r P1:2=w,r")),
-        (1, Request::Claim(6)),
-        (1, Request::CutCost(6)),
-        (1, Request::Claim(13)),
-        (1, Request::CutCost(13)),
-        (0, Request::Claim(11)),
-        (0, Request::Adopt(6)),
-        (1, Request::Adopt(6)),
-        (1, Request::CutBound(6, "P0:2=rw,rw")),
-    ];
-    let peeks = [(0, Request::Peek(0)), (1, Request::Peek(0))];
-    make_desk::<A, R>(rt, alloc, question, &requests, 2)?;
-    make_desk::<A, R>(rt, alloc, question, &peeks, 2)?;
-    make_desk::<A, R>(rt, alloc, question, &peeks, 1)?;
+    make_desk::<A, R>(rt, alloc, question, REQUESTS, 2)?;
+    make_desk::<A, R>(rt, alloc, question, PEEKS, 2)?;
+    make_desk::<A, R>(rt, alloc, question, PEEKS, 1)?;
     let problem = problem_of(alloc, question)?;
     make_left::<A, R>(rt, alloc, question, &problem)?;
     make_two::<A, R>(rt, alloc, question)

@@ -61,17 +61,19 @@ fn act_at<R: Print>(rt: &R, hands: &mut Vec<Hand>, place: usize, what: Move) -> 
     act(rt, &mut hands[place], what)
 }
 
-/// What two hands have left: the number 0 is popped and the number 1 stolen as soon as it is pushed.
-fn left<R: Print>(rt: &R, alloc: Global) -> Result<Vec<usize>, Fault> {
-    let moves = [
-        (0, Move::Push(0)),
-        (0, Move::Pop),
-        (0, Move::Push(1)),
-        (1, Move::Steal),
-        (0, Move::PushFrom(2)),
-    ];
+/// The number 0 is popped and the number 1 stolen as soon as it is pushed.
+const MOVES: &[(usize, Move)] = &[
+    (0, Move::Push(0)),
+    (0, Move::Pop),
+    (0, Move::Push(1)),
+    (1, Move::Steal),
+    (0, Move::PushFrom(2)),
+];
+
+/// What two hands have left after these moves, each by the hand of its number.
+fn left<R: Print>(rt: &R, alloc: Global, moves: &[(usize, Move)]) -> Result<Vec<usize>, Fault> {
     let mut ring = hands(alloc, 2)?;
-    for (place, what) in &moves {
+    for (place, what) in moves {
         if *place < ring.len() {
             act_at(rt, &mut ring, *place, *what)?;
         }
@@ -82,7 +84,7 @@ fn left<R: Print>(rt: &R, alloc: Global) -> Result<Vec<usize>, Fault> {
 /// Prints what two hands have left, in rising order.
 pub(crate) fn make<R: Print + AllocGlobal>(rt: &R) -> Result<(), Fault> {
     let _ = rt.println("rings");
-    let mut numbers = twice!(rt, left(rt, rt.alloc()))?;
+    let mut numbers = twice!(rt, left(rt, rt.alloc(), MOVES))?;
     numbers.sort_unstable();
     let _ = rt.print("left");
     for number in &numbers {
