@@ -4,7 +4,6 @@ use crate::wrong::add_wrong;
 use fs_litmus_syntax::{Atom, Condition, Tree, read_condition};
 use fs_litmus_tokens::{Stop, Target, Value, tokens};
 use std::alloc::{AllocError, Global};
-use std::test::Fail;
 
 /// The hart of a target with its colon, which a location lacks, and the name.
 pub(crate) fn target_parts<'a>(target: Target<'a>) -> (&'a str, &'a str, &'a str) {
@@ -91,7 +90,7 @@ fn shown_around(alloc: Global, before: &str, after: &str, n: usize) -> Result<St
 
 // How connectives bind and associate, which atoms there are, and that no word is reserved; and where a condition stops
 // at its first bad token.
-const CONDITIONS: &[(&str, &str)] = &[
+pub(crate) const CONDITIONS: &[(&str, &str)] = &[
     (
         "x=1 /\\ y=2 \\/ z=3 /\\ w=4",
         "| & x=1 y=2 & z=3 w=4 ; x y z w",
@@ -183,7 +182,7 @@ const CONDITIONS: &[(&str, &str)] = &[
 
 // What stands before and after `x=1`, how often, and whether there is a tree: of conditions of depth 64 there is one, and
 // of deeper ones none.
-const DEPTHS: &[(&str, &str, usize, bool)] = &[
+pub(crate) const DEPTHS: &[(&str, &str, usize, bool)] = &[
     ("(", ")", 64, true),
     ("(", ")", 65, false),
     ("~", "", 64, true),
@@ -205,7 +204,7 @@ const DEPTHS: &[(&str, &str, usize, bool)] = &[
 ];
 
 /// Adds the conditions that aren't read as the table says.
-fn add_conditions(
+pub(crate) fn add_wrong_conditions(
     alloc: Global,
     rows: &[(&str, &str)],
     wrong: &mut String,
@@ -218,7 +217,7 @@ fn add_conditions(
 }
 
 /// Adds the conditions that have a tree, or none, against the table.
-fn add_depths(
+pub(crate) fn add_wrong_depths(
     alloc: Global,
     rows: &[(&str, &str, usize, bool)],
     wrong: &mut String,
@@ -230,14 +229,5 @@ fn add_depths(
             wrong.push_str("\n")?;
         }
     }
-    Ok(())
-}
-
-#[test]
-fn conditions(rt: HostRuntime) -> Result<(), Fail> {
-    let mut wrong = String::new(rt.alloc());
-    add_conditions(rt.alloc(), CONDITIONS, &mut wrong)?;
-    add_depths(rt.alloc(), DEPTHS, &mut wrong)?;
-    assert_eq!(rt; wrong.as_str(), "");
     Ok(())
 }

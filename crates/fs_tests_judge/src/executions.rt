@@ -19,7 +19,6 @@ use fs_tests_shared::{
 };
 use fs_values::Values;
 use std::alloc::{AllocError, Global};
-use std::test::Fail;
 
 /// Writes the choice of the step, where it has one, as a witness file has it.
 fn write_choice(step: &Step, text: &mut String) -> Result<(), AllocError> {
@@ -54,6 +53,37 @@ fn name_text(alloc: Global, traces: &[Trace], operation: &Operation) -> Result<S
     format!(in alloc; "\"P{hart}:{at}\"")
 }
 
+/// The choices of the runs, with commas between.
+fn all_choices_text(alloc: Global, traces: &[Trace]) -> Result<String, AllocError> {
+    let mut text = String::new(alloc);
+    for run in traces {
+        if !text.is_empty() {
+            text.push_str(",")?;
+        }
+        text.push_str(choices_text(alloc, run)?.as_str())?;
+    }
+    Ok(text)
+}
+
+/// The names of the operations in this order, with commas between.
+fn names_text(
+    alloc: Global,
+    traces: &[Trace],
+    operations: &[Operation],
+    order: &[u8],
+) -> Result<String, AllocError> {
+    let mut text = String::new(alloc);
+    for a in order {
+        if !text.is_empty() {
+            text.push_str(",")?;
+        }
+        if let Some(operation) = operations.get(usize::from(*a)) {
+            text.push_str(name_text(alloc, traces, operation)?.as_str())?;
+        }
+    }
+    Ok(text)
+}
+
 /// The witness file of the runs with this order of their operations.
 fn witness_text(
     alloc: Global,
@@ -61,22 +91,8 @@ fn witness_text(
     operations: &[Operation],
     order: &[u8],
 ) -> Result<String, AllocError> {
-    let mut choices = String::new(alloc);
-    for run in traces {
-        if !choices.is_empty() {
-            choices.push_str(",")?;
-        }
-        choices.push_str(choices_text(alloc, run)?.as_str())?;
-    }
-    let mut names = String::new(alloc);
-    for a in order {
-        if !names.is_empty() {
-            names.push_str(",")?;
-        }
-        if let Some(operation) = operations.get(usize::from(*a)) {
-            names.push_str(name_text(alloc, traces, operation)?.as_str())?;
-        }
-    }
+    let choices = all_choices_text(alloc, traces)?;
+    let names = names_text(alloc, traces, operations, order)?;
     format!(in alloc; "{{\"choices\":[{choices}],\"order\":[{names}]}}")
 }
 
@@ -245,25 +261,25 @@ fn add_wrong_counts(
     Ok(())
 }
 
-/// The tests that as many executions don't show as the tables say.
-fn wrong_counts(alloc: Global) -> Result<String, Fault> {
+/// Adds the test, unless so many executions over the words of its locations show the outcome.
+fn add_wrong_value(
+    alloc: Global,
+    text: &str,
+    wanted: usize,
+    wrong: &mut String,
+) -> Result<(), Fault> {
+    if compare_values(alloc, text)? != wanted {
+        wrong.push_str(text)?;
+    }
+    Ok(())
+}
+
+/// The tests that as many executions don't show as is known. Of POINTER the loaded address binds the store behind the
+/// second load too: it may only be the last or the second one.
+pub(crate) fn wrong_counts(alloc: Global) -> Result<String, Fault> {
     let mut wrong = String::new(alloc);
     add_wrong_counts(alloc, SHOWING, &[0, 1, 2], &mut wrong)?;
     add_wrong_counts(alloc, FORWARDING, &[0, 1], &mut wrong)?;
+    add_wrong_value(alloc, POINTER, 2, &mut wrong)?;
     Ok(wrong)
-}
-
-#[test]
-fn so_many_executions_show_the_outcome(rt: HostRuntime) -> Result<(), Fail> {
-    let wrong = wrong_counts(rt.alloc())?;
-    assert_eq!(rt; wrong.as_str(), "");
-    Ok(())
-}
-
-/// The loaded address binds the store behind the second load too: it may only be the last or the second one.
-#[test]
-fn an_address_comes_before_what_follows_it(rt: HostRuntime) -> Result<(), Fail> {
-    let found = compare_values(rt.alloc(), POINTER)?;
-    assert_eq!(rt; found, 2);
-    Ok(())
 }

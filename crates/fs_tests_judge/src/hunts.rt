@@ -1,12 +1,13 @@
 //! What hunts find is right: trees by the check of trees, executions by the check of executions.
 
-ghost use Rattle.std.specs.Prelude.{All};
-ghost use Rattle.fs_model.specs.Test.{IsBounded, IsStart};
+ghost use Rattle.std.specs.Prelude.{All, IfOk};
+ghost use Rattle.std.specs.Arc.{arc_value};
+ghost use Rattle.fs_model.specs.Test.{IsBounded, IsStart, IsTest};
 
 use crate::texts::{ADDERS, ALWAYS, CASES, LAST, LOCK, LOCK3, PAIRS, SEEN, SOURCES, THREE, UNTOLD};
 use fs_cert_evidence::{Names, WitnessFile};
 use fs_check::shown_by;
-use fs_judge_hunt::{Execution, Found, Kept, Refutation};
+use fs_judge_hunt::{Execution, Found, Hunter, Kept, Refutation};
 use fs_judge_runs::hunter_of;
 use fs_kinds::{Fault, Placement};
 use fs_litmus::{Test, read_test};
@@ -18,7 +19,6 @@ use fs_tests_shared::{
 };
 use std::alloc::{AllocError, Global};
 use std::sync::Arc;
-use std::test::Fail;
 
 /// How a hunt is made.
 #[derive(Clone, Copy)]
@@ -136,18 +136,47 @@ fn told(
     Ok(text)
 }
 
-/// What is found on the test of this text with the fences that the words name.
-fn hunted(alloc: Global, text: &str, fences: &str, way: Way) -> Result<String, Fault> {
+/// A test that is ready for hunts.
+#[derive(Drop)]
+pub(crate) struct Prepared {
+    pub(crate) test: Arc<Test>,
+    pub(crate) basis: Basis,
+    pub(crate) hunter: Hunter,
+}
+
+/// The test of this text.
+pub(crate) fn prepare(alloc: Global, text: &str) -> Result<Prepared, Fault>
+    ensures { IfOk result (λ ready. IsTest (arc_value ready.test)) }
+{
     let test = Arc::new(alloc, read_test(alloc, text.as_bytes())?)?;
-    let placement = placement_of(alloc, &test, fences)?;
     let basis = Basis::new(alloc, &test)?;
     let hunter = hunter_of(alloc, &test, basis.names(), basis.runs())?;
-    let found = if way.is_first {
-        hunter.first(alloc, &placement, way.most)?
-    } else {
-        hunter.hunt(alloc, &mut Kept::new(), &placement, way.most)?
-    };
-    told(alloc, &basis, &test, &placement, found, way)
+    Ok(Prepared {
+        test,
+        basis,
+        hunter,
+    })
+}
+
+/// What a hunt finds.
+fn found_by(
+    alloc: Global,
+    hunter: &Hunter,
+    placement: &Placement,
+    way: Way,
+) -> Result<Found, Fault> {
+    if way.is_first {
+        return hunter.first(alloc, placement, way.most);
+    }
+    hunter.hunt(alloc, &mut Kept::new(), placement, way.most)
+}
+
+/// What is found on the test of this text with the fences that the words name.
+fn hunted(alloc: Global, text: &str, fences: &str, way: Way) -> Result<String, Fault> {
+    let ready = prepare(alloc, text)?;
+    let placement = placement_of(alloc, &ready.test, fences)?;
+    let found = found_by(alloc, &ready.hunter, &placement, way)?;
+    told(alloc, &ready.basis, &ready.test, &placement, found, way)
 }
 
 /// Writes the same for each of the tests, a line for each.
@@ -217,7 +246,7 @@ const FIRSTS: &[(&str, &str)] = &[
 ];
 
 /// What is found of these tests, in their order.
-const FOUND: &str = "shown true
+pub(crate) const FOUND: &str = "shown true
 shown true
 refuted, None
 shown true
@@ -255,7 +284,7 @@ shown true;; : P0:2 P1:2 P1:3 P0:3
 ";
 
 /// What is found of all these tests.
-fn all_hunted(alloc: Global) -> Result<String, Fault> {
+pub(crate) fn all_hunted(alloc: Global) -> Result<String, Fault> {
     let mut lines = String::new(alloc);
     write_hunted(alloc, PLAIN, ANY, &mut lines)?;
     write_hunted(alloc, OTHERS, ANY, &mut lines)?;
@@ -263,46 +292,49 @@ fn all_hunted(alloc: Global) -> Result<String, Fault> {
     Ok(lines)
 }
 
-#[test]
-fn hunts_find_what_is_right(rt: HostRuntime) -> Result<(), Fail> {
-    let found = all_hunted(rt.alloc())?;
-    assert_eq!(rt; found.as_str(), FOUND);
-    Ok(())
-}
-
 /// How many inferences the refutation has that a hunt finds; 0 where it finds none.
-fn refuted_by(alloc: Global, text: &str, fences: &str, most: usize) -> Result<usize, Fault> {
-    let test = Arc::new(alloc, read_test(alloc, text.as_bytes())?)?;
-    let placement = placement_of(alloc, &test, fences)?;
-    let basis = Basis::new(alloc, &test)?;
-    let hunter = hunter_of(alloc, &test, basis.names(), basis.runs())?;
-    match hunter.hunt(alloc, &mut Kept::new(), &placement, most)? {
+fn refuted_by(
+    alloc: Global,
+    hunter: &Hunter,
+    placement: &Placement,
+    most: usize,
+) -> Result<usize, Fault> {
+    match hunter.hunt(alloc, &mut Kept::new(), placement, most)? {
         Found::Refuted(tree) => Ok(tree.inferences.len()),
         _ => Ok(0),
     }
 }
 
-/// For each of the tests the numbers for a limit of a million inferences, of as many as the refutation then has, and of
-/// one less.
-fn write_bounds(alloc: Global, rows: &[(&str, &str)], text: &mut String) -> Result<(), Fault> {
+/// Writes the numbers for a limit of a million inferences, of as many as the refutation then has, and of one less: a
+/// hunt gives up where the refutation would pass its limit, and not before.
+fn write_bounds(
+    alloc: Global,
+    hunter: &Hunter,
+    placement: &Placement,
+    text: &mut String,
+) -> Result<(), Fault> {
+    let size = refuted_by(alloc, hunter, placement, ANY.most)?;
+    let within = refuted_by(alloc, hunter, placement, size)?;
+    let beyond = refuted_by(alloc, hunter, placement, size.saturating_sub(1))?;
+    let is_long = size > 100;
+    Ok(write!(text, "{is_long} {} {beyond}\n", within == size)?)
+}
+
+/// The same for each of the tests.
+pub(crate) fn bounds_of(alloc: Global, rows: &[(&str, &str)]) -> Result<String, Fault> {
+    let mut text = String::new(alloc);
     for (test, fences) in rows {
-        let size = refuted_by(alloc, test, fences, ANY.most)?;
-        let within = refuted_by(alloc, test, fences, size)?;
-        let beyond = refuted_by(alloc, test, fences, size.saturating_sub(1))?;
-        let is_long = size > 100;
-        write!(text, "{is_long} {} {beyond}\n", within == size)?;
+        let ready = prepare(alloc, test)?;
+        let placement = placement_of(alloc, &ready.test, fences)?;
+        write_bounds(alloc, &ready.hunter, &placement, &mut text)?;
     }
-    Ok(())
+    Ok(text)
 }
 
 /// Locks of three harts and additions of five, which have more than 4,000,000 candidates.
-const LONG: &[(&str, &str)] = &[(LOCK3, LOCK3_FENCES), (ADDERS, "")];
+pub(crate) const LONG: &[(&str, &str)] = &[(LOCK3, LOCK3_FENCES), (ADDERS, "")];
 
-/// A hunt gives up where the refutation would pass its limit, and not before.
-#[test]
-fn hunts_give_up_at_their_limit(rt: HostRuntime) -> Result<(), Fail> {
-    let mut text = String::new(rt.alloc());
-    write_bounds(rt.alloc(), LONG, &mut text)?;
-    assert_eq!(rt; text.as_str(), "true true 0\ntrue true 0\n");
-    Ok(())
-}
+/// The numbers of these.
+pub(crate) const BOUNDS: &str = "true true 0
+true true 0
+";

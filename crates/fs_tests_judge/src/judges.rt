@@ -1,5 +1,6 @@
 //! Judges of one problem, beside what the problem itself says.
 ghost use Rattle.std.specs.Prelude.{◌≡◌};
+ghost use Rattle.std.specs.Arc.{arc_value};
 ghost use Rattle.fs_model.specs.Test.{IsBounded};
 
 use fs_judge::{Judge, Problem, Verdict};
@@ -8,7 +9,6 @@ use fs_model::Choice;
 use fs_tests_shared::{placement_of, problem_of, verdict_on};
 use std::alloc::{AllocError, Global};
 use std::sync::Arc;
-use std::test::Fail;
 
 /// Store buffering in which hart 1 may load either word.
 const EITHER: &str = "RISCV SB
@@ -77,21 +77,24 @@ fn write_verdict_on(
     Ok(write_verdict(&verdict, text)?)
 }
 
-/// What a judge of a problem says in turn, and the problem.
-fn said(alloc: Global) -> Result<String, Fault> {
+/// Writes what a judge of the problem says in turn.
+fn write_by_judge(alloc: Global, problem: Arc<Problem>, text: &mut String) -> Result<(), Fault>
+    requires { IsBounded (arc_value problem) }
+{
+    let mut judge = Judge::new(alloc, problem);
+    write_judged(alloc, &mut judge, BOTH, text)?;
+    write_judged(alloc, &mut judge, "", text)
+}
+
+/// What a judge of a problem says in turn, and the problem. A judge tries the candidates first that it has found. The
+/// problem finds the first one of all.
+pub(crate) fn judged_in_turn(alloc: Global) -> Result<String, Fault> {
     let problem = problem_of(alloc, EITHER)?;
-    let mut judge = Judge::new(alloc, Arc::try_clone(&problem)?);
     let mut text = String::new(alloc);
-    write_judged(alloc, &mut judge, BOTH, &mut text)?;
-    write_judged(alloc, &mut judge, "", &mut text)?;
+    write_by_judge(alloc, Arc::try_clone(&problem)?, &mut text)?;
     write_verdict_on(alloc, &problem, "", &mut text)?;
     Ok(text)
 }
 
-/// A judge tries the candidates first that it has found. The problem finds the first one of all.
-#[test]
-fn judge_and_problem(rt: HostRuntime) -> Result<(), Fail> {
-    let found = said(rt.alloc())?;
-    assert_eq!(rt; found.as_str(), "[0][1] [0][1] [0][0] ");
-    Ok(())
-}
+/// What they say.
+pub(crate) const JUDGED: &str = "[0][1] [0][1] [0][0] ";

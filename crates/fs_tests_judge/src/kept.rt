@@ -1,16 +1,12 @@
 //! Hunts that begin with what earlier ones have kept.
 
+use crate::hunts::prepare;
 use crate::texts::{ALWAYS, CASES, LOCK, LOCK3, WAITERS};
 use fs_judge::{Judge, Verdict};
 use fs_judge_hunt::{Found, Hunter, Kept};
-use fs_judge_runs::hunter_of;
 use fs_kinds::{Fault, Placement};
-use fs_litmus::read_test;
-use fs_region_refutation::Basis;
 use fs_tests_shared::{SB, placement_of, problem_of};
 use std::alloc::Global;
-use std::sync::Arc;
-use std::test::Fail;
 
 /// As many inferences as a refutation may have.
 const MOST: usize = 1000000;
@@ -49,20 +45,18 @@ fn write_hunt(
 }
 
 /// The same for hunts one after the other, with the fences that each of the words names.
-fn all_hunted(alloc: Global, text: &str, fences: &[&str]) -> Result<String, Fault> {
-    let test = Arc::new(alloc, read_test(alloc, text.as_bytes())?)?;
-    let basis = Basis::new(alloc, &test)?;
-    let hunter = hunter_of(alloc, &test, basis.names(), basis.runs())?;
+pub(crate) fn hunted_in_turn(alloc: Global, text: &str, fences: &[&str]) -> Result<String, Fault> {
+    let ready = prepare(alloc, text)?;
     let mut kept = Kept::new();
     let mut lines = String::new(alloc);
     for words in fences {
-        let placement = placement_of(alloc, &test, words)?;
-        write_hunt(alloc, &hunter, &mut kept, &placement, &mut lines)?;
+        let placement = placement_of(alloc, &ready.test, words)?;
+        write_hunt(alloc, &ready.hunter, &mut kept, &placement, &mut lines)?;
     }
     Ok(lines)
 }
 
-const LOCK3_FENCES: &[&str] = &[
+pub(crate) const LOCK3_FENCES: &[&str] = &[
     "P0:3=r,r P0:7=w,w P1:3=r,r P1:7=w,w P2:3=r,r P2:7=w,w",
     "P0:3=r,r P0:7=w,w P1:3=r,r P1:7=w,w P2:3=r,r P2:7=w,w",
     "P0:3=rw,rw P0:7=rw,rw P1:3=rw,rw P1:7=rw,rw P2:3=rw,rw P2:7=rw,rw",
@@ -70,21 +64,13 @@ const LOCK3_FENCES: &[&str] = &[
     "P0:3=tso P0:7=w,w P1:3=r,r P1:7=tso P2:3=r,r P2:7=w,w",
 ];
 
-/// What was refuted once needs no look with the same fences or with more.
-#[test]
-fn trees_are_kept(rt: HostRuntime) -> Result<(), Fail> {
-    let found = all_hunted(rt.alloc(), LOCK3, LOCK3_FENCES)?;
-    assert_eq!(rt;
-        found.as_str(),
-        "refuted false false
+/// What the hunts find: what was refuted once needs no look with the same fences or with more.
+pub(crate) const KEPT: &str = "refuted false false
 refuted true true
 refuted true true
 shown false true
 refuted true true
-"
-    );
-    Ok(())
-}
+";
 
 fn is_allowed(verdict: &Verdict) -> bool {
     matches!(verdict, Verdict::Allowed(_))
@@ -175,24 +161,17 @@ const STORES: &[&str] = &[SB, ALWAYS, CASES];
 /// of the first one isn't before the release. Each of the five harts needs a fence between its AMO or store and its
 /// load. With more fences orders of AMOs follow near the root that with fewer were decided, or followed the other way,
 /// below.
-fn said_in_turn(alloc: Global) -> Result<String, Fault> {
+pub(crate) fn said_in_turn(alloc: Global) -> Result<String, Fault> {
     let mut text = all_judged(alloc, STORES, TWO_SLOTS)?;
     write_all_judged(alloc, LOCK, LOCK_FENCES, &mut text)?;
     write_all_judged(alloc, WAITERS, WAITERS_FENCES, &mut text)?;
     Ok(text)
 }
 
-#[test]
-fn kept_trees_hold(rt: HostRuntime) -> Result<(), Fail> {
-    let said = said_in_turn(rt.alloc())?;
-    assert_eq!(rt;
-        said.as_str(),
-        "+++-+++-- 0
+/// What is said of them.
+pub(crate) const SAID: &str = "+++-+++-- 0
 +++-+++-- 0
 +++-+++-- 0
 -++++-+-- 0
 ++++-+- 0
-"
-    );
-    Ok(())
-}
+";

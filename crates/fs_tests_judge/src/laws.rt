@@ -13,16 +13,11 @@ use fs_verdict_laws::cycles_decide;
 
 /// In a test whose runs can be listed an outcome is forbidden where no showing candidate is acyclic, and no value of an
 /// execution is out of thin air.
-fn verdicts_rest_on_candidates()
+pub(crate) fn verdicts_rest_on_candidates()
     ensures forbidden { (t : Test) → CanBeListed t → (p : List Entry) → (HasAcyclic t p → ⊥) → Allows t p → ⊥ }
     ensures grounded { (t : Test) → CanBeListed t → (p : List Entry) (e : Execution) → IsExecution t p e
         → IsGrounded t e }
 {
     cycles_decide();
     nothing_out_of_thin_air();
-}
-
-#[test]
-fn verdicts_rest_on_laws() {
-    verdicts_rest_on_candidates();
 }

@@ -30,6 +30,8 @@ mod slots;
 #[cfg(test)]
 mod subtrees;
 #[cfg(test)]
+mod tables;
+#[cfg(test)]
 mod texts;
 #[cfg(test)]
 mod traces;

@@ -1,10 +1,11 @@
 //! Texts in which FENCEs are others, or blanks.
+ghost use Rattle.fs_model.specs.Test.{IsBounded};
 
+use crate::wrong::add_wrong;
 use fs_app_audit_text::rewrite;
 use fs_kinds::{Fault, Placement, Slot, read_fence};
-use fs_litmus::read_test;
+use fs_litmus::{Test, read_test};
 use std::alloc::{AllocError, Global};
-use std::test::Fail;
 
 /// So many places of each hart may have fences.
 const SLOTS: [Slot; 8] = [
@@ -37,15 +38,22 @@ fn text_of(alloc: Global, rows: &str) -> Result<String, AllocError> {
     )
 }
 
-/// The rows with these fences, or `nothing`, or the fault's line.
+/// The text with these fences, or `nothing`.
+fn changed(alloc: Global, text: &str, own: &Test, placement: &Placement) -> Result<String, Fault>
+    requires { IsBounded own.now }
+{
+    match rewrite(alloc, text.as_bytes(), own, placement)? {
+        Some(made) => Ok(made.text),
+        None => Ok(String::from_str(alloc, "nothing")?),
+    }
+}
+
+/// The text of these rows with the fences that the words name, or `nothing`.
 fn rewritten(alloc: Global, rows: &str, words: &str) -> Result<String, Fault> {
     let text = text_of(alloc, rows)?;
     let own = read_test(alloc, text.as_bytes())?;
     let placement = placement_of(alloc, words)?;
-    match rewrite(alloc, text.as_bytes(), &own, &placement)? {
-        Some(made) => Ok(made.text),
-        None => Ok(String::from_str(alloc, "nothing")?),
-    }
+    changed(alloc, &text, &own, &placement)
 }
 
 /// What is wanted: the text with these rows, but what isn't rows as it is.
@@ -57,6 +65,7 @@ fn wanted(alloc: Global, rows: &str) -> Result<String, AllocError> {
     }
 }
 
+/// The same, or the line of the fault.
 fn shown(alloc: Global, rows: &str, words: &str) -> Result<String, AllocError> {
     match rewritten(alloc, rows, words) {
         Ok(text) => Ok(text),
@@ -66,7 +75,7 @@ fn shown(alloc: Global, rows: &str, words: &str) -> Result<String, AllocError> {
 }
 
 /// The rows, the fences that they are to have, and what becomes of the rows.
-const ROWS: &[(&str, &str, &str)] = &[
+pub(crate) const REWRITTEN: &[(&str, &str, &str)] = &[
     // Another kind, the same one as it is spelled, and one that goes.
     (
         " sw x5,0(x6)   | lw x5,0(x6)   ;\n fence rw,rw   | fence  rw , rw;\n sw x5,0(x7)   | fence r,rw    ;\n               | lw x7,0(x8)   ;",
@@ -117,20 +126,16 @@ const ROWS: &[(&str, &str, &str)] = &[
     ("fence rw,rw ;", "P0:0=rw,rw", "fault F3 Syntax line 6"),
 ];
 
-/// What the rows become, one below the other, and what is wanted.
-fn both(alloc: Global, table: &[(&str, &str, &str)]) -> Result<(String, String), AllocError> {
-    let mut found = String::new(alloc);
-    let mut all = String::new(alloc);
-    for (rows, words, changed) in table {
-        found.push_str(shown(alloc, rows, words)?.as_str())?;
-        all.push_str(wanted(alloc, changed)?.as_str())?;
+/// Adds the rows that become something else than the table says.
+pub(crate) fn add_wrong_rewritten(
+    alloc: Global,
+    table: &[(&str, &str, &str)],
+    wrong: &mut String,
+) -> Result<(), AllocError> {
+    for (rows, words, wanted_rows) in table {
+        let found = shown(alloc, rows, words)?;
+        let wanted = wanted(alloc, wanted_rows)?;
+        add_wrong(rows, &found, &wanted, wrong)?;
     }
-    Ok((found, all))
-}
-
-#[test]
-fn rewriting(rt: HostRuntime) -> Result<(), Fail> {
-    let (found, all) = both(rt.alloc(), ROWS)?;
-    assert_eq!(rt; found.as_str(), all.as_str());
     Ok(())
 }

@@ -1,16 +1,12 @@
 //! Refutations of hunts, looked at by their subtrees.
 
-use crate::hunts::LOCK3_FENCES;
+use crate::hunts::{LOCK3_FENCES, prepare};
 use crate::texts::LOCK3;
 use fs_judge_hunt::{Found, Kept, Refutation};
-use fs_judge_runs::hunter_of;
 use fs_kinds::{Fault, Placement};
-use fs_litmus::read_test;
 use fs_region_refutation::{Basis, small_subtrees};
 use fs_tests_shared::placement_of;
 use std::alloc::{AllocError, Global};
-use std::sync::Arc;
-use std::test::Fail;
 
 /// How many inferences a hunt may make.
 const MOST: usize = 1_000_000;
@@ -63,20 +59,20 @@ fn looked_by_sizes(
 }
 
 /// The same of what a hunt finds on this lock of three harts.
-fn all_looked(alloc: Global, text: &str) -> Result<String, Fault> {
-    let test = Arc::new(alloc, read_test(alloc, text.as_bytes())?)?;
-    let placement = placement_of(alloc, &test, LOCK3_FENCES)?;
-    let basis = Basis::new(alloc, &test)?;
-    let hunter = hunter_of(alloc, &test, basis.names(), basis.runs())?;
-    match hunter.hunt(alloc, &mut Kept::new(), &placement, MOST)? {
-        Found::Refuted(tree) => looked_by_sizes(alloc, &basis, &placement, &tree),
+pub(crate) fn all_looked(alloc: Global, text: &str) -> Result<String, Fault> {
+    let ready = prepare(alloc, text)?;
+    let placement = placement_of(alloc, &ready.test, LOCK3_FENCES)?;
+    match ready
+        .hunter
+        .hunt(alloc, &mut Kept::new(), &placement, MOST)?
+    {
+        Found::Refuted(tree) => looked_by_sizes(alloc, &ready.basis, &placement, &tree),
         _ => Ok(String::new(alloc)),
     }
 }
 
-#[test]
-fn subtrees_are_looked_at_apart(rt: HostRuntime) -> Result<(), Fail> {
-    let lines = all_looked(rt.alloc(), LOCK3)?;
-    assert_eq!(rt; lines.as_str(), "true true true\nfalse true true\nnone\n");
-    Ok(())
-}
+/// What is said of the subtrees.
+pub(crate) const LOOKED: &str = "true true true
+false true true
+none
+";

@@ -9,7 +9,6 @@ use fs_kinds::Fault;
 use fs_litmus::read_test;
 use fs_tests_shared::{FORWARDED, LBC, LRSC, LRSCY, MPA, MPB, POINTER, runs_of, told};
 use std::alloc::{AllocError, Global};
-use std::test::Fail;
 
 /// Loads from the address that it has loaded.
 const LOADED: &str = "RISCV Loaded
@@ -61,15 +60,10 @@ fn trace_text(alloc: Global, trace: &Trace) -> Result<String, Fault> {
     Ok(text)
 }
 
-/// The words and the dependencies of the run that the choices make of the hart; or why there is no such run.
-fn run_text(alloc: Global, text: &str, hart: u8, choices: &str) -> Result<String, Fault> {
-    let choices = choices_of(alloc, choices)?;
-    let test = read_test(alloc, text.as_bytes())?;
-    if usize::from(hart) >= test.codes.as_slice().len() {
-        return Err(Fault::BadWitness);
-    }
-    let why = match trace_of(alloc, &test, hart, &choices)? {
-        Run::Whole(trace) => return trace_text(alloc, &trace),
+/// The words and the dependencies of the run; or why there is no whole one.
+fn told_run(alloc: Global, run: &Run) -> Result<String, Fault> {
+    let why = match run {
+        Run::Whole(trace) => return trace_text(alloc, trace),
         Run::Short => "short",
         Run::Long => "long",
         Run::BadChoice => "bad choice",
@@ -79,8 +73,19 @@ fn run_text(alloc: Global, text: &str, hart: u8, choices: &str) -> Result<String
     Ok(String::from_str(alloc, why)?)
 }
 
+/// What is told of the run that the choices make of the hart.
+fn run_text(alloc: Global, text: &str, hart: u8, choices: &str) -> Result<String, Fault> {
+    let choices = choices_of(alloc, choices)?;
+    let test = read_test(alloc, text.as_bytes())?;
+    if usize::from(hart) >= test.codes.as_slice().len() {
+        return Err(Fault::BadWitness);
+    }
+    let run = trace_of(alloc, &test, hart, &choices)?;
+    told_run(alloc, &run)
+}
+
 /// Tests, harts, and their runs by these choices.
-const RUNS: &[(&str, u8, &str, &str)] = &[
+pub(crate) const RUNS: &[(&str, u8, &str, &str)] = &[
     (MPB, 1, "1", "short"),
     (MPB, 1, "1 0 0", "long"),
     (MPB, 1, "success", "bad choice"),
@@ -97,7 +102,7 @@ const RUNS: &[(&str, u8, &str, &str)] = &[
 ];
 
 /// Adds the tests whose runs aren't those of the table.
-fn add_wrong_runs(
+pub(crate) fn add_wrong_runs(
     alloc: Global,
     rows: &[(&str, u8, &str, &str)],
     wrong: &mut String,
@@ -145,20 +150,11 @@ fn add_wrong_list(
 
 /// Words rise and success comes before failure; what can't be is left out; a loaded address leads on, or astray. x and
 /// y have the addresses 4096 and 4112.
-fn add_wrong_lists(alloc: Global, wrong: &mut String) -> Result<(), AllocError> {
+pub(crate) fn add_wrong_lists(alloc: Global, wrong: &mut String) -> Result<(), AllocError> {
     let both = "0 =1 | 0 -0 | 2 =1 | 2 -0 | ";
     add_wrong_list(alloc, LRSC, &[0, 2], both, wrong)?;
     add_wrong_list(alloc, LRSCY, &[3, 7], "3 -0 | 7 -0 | ", wrong)?;
     let four = "4096 4096 | 4096 4112 | 4112 4096 | 4112 4112 | ";
     add_wrong_list(alloc, LOADED, &[4096, 4112], four, wrong)?;
     add_wrong_list(alloc, LOADED, &[4112, 4113], "fault F14 Astray P0:1", wrong)
-}
-
-#[test]
-fn choices_make_runs(rt: HostRuntime) -> Result<(), Fail> {
-    let mut wrong = String::new(rt.alloc());
-    add_wrong_runs(rt.alloc(), RUNS, &mut wrong)?;
-    add_wrong_lists(rt.alloc(), &mut wrong)?;
-    assert_eq!(rt; wrong.as_str(), "");
-    Ok(())
 }
