@@ -1,12 +1,13 @@
 //! Hunts by several workers.
 
 use crate::workers::answered;
+use crate::wrong::add_wrong;
 use fs_board::Board;
 use fs_board_search::{Unwatched, problem_of, search_alone};
 use fs_kinds::Fault;
 use fs_pool_workers::{Hunters, Open};
 use fs_tests_shared::{PRICES, SB, question_of};
-use std::alloc::Global;
+use std::alloc::{AllocError, Global};
 use std::sync::Wait;
 use std::test::Fail;
 use std::thread::Threads;
@@ -55,33 +56,46 @@ fn shared<R: Threads + Wait + Sync>(
     Ok((hunters.joint(), hunters.checks()))
 }
 
-/// A thread may begin only when the first one is done: then they try again.
-#[test]
-fn two_workers_hunt_for_one_verdict(rt: HostRuntime) -> Result<(), Fail> {
-    let mut is_joint = false;
-    for _ in 0..20 {
-        let (hunts, _) = shared(&rt, rt.alloc(), LOCK, 2)?;
-        is_joint = is_joint || hunts > 0;
+/// Adds the test, unless two workers hunt together in one of 20 searches at least, and look at a refutation together in
+/// the first: a thread may begin only when the first one is done.
+fn add_alone<R: Threads + Wait + Sync>(
+    rt: &R,
+    alloc: Global,
+    text: &str,
+    wrong: &mut String,
+) -> Result<(), Fault> {
+    let (mut hunts, checks) = shared(rt, alloc, text, 2)?;
+    for _ in 1..20 {
+        let (more, _) = shared(rt, alloc, text, 2)?;
+        hunts = hunts.saturating_add(more);
     }
-    assert!(rt; is_joint);
-    Ok(())
-}
-
-#[test]
-fn two_workers_look_at_one_refutation(rt: HostRuntime) -> Result<(), Fail> {
-    let (_, checks) = shared(&rt, rt.alloc(), LOCK, 2)?;
-    assert!(rt; checks > 0);
+    if hunts == 0 || checks == 0 {
+        write!(
+            wrong,
+            "{hunts} hunts and {checks} checks are joint in {text}"
+        )?;
+    }
     Ok(())
 }
 
 /// Hunts that one worker makes, since they are short or there is no other.
 const SHORT: &[(&str, u8)] = &[(SB, 4), (LOCK, 1)];
 
-#[test]
-fn short_hunts_are_hunted_by_one(rt: HostRuntime) -> Result<(), Fail> {
-    for (text, workers) in SHORT {
-        let (hunts, checks) = shared(&rt, rt.alloc(), text, *workers)?;
-        assert!(rt; hunts == 0 && checks == 0);
+/// Adds the tests in which several workers hunt or look at a refutation.
+fn add_joint<R: Threads + Wait + Sync>(
+    rt: &R,
+    alloc: Global,
+    rows: &[(&str, u8)],
+    wrong: &mut String,
+) -> Result<(), Fault> {
+    for (text, workers) in rows {
+        let (hunts, checks) = shared(rt, alloc, text, *workers)?;
+        if hunts != 0 || checks != 0 {
+            write!(
+                wrong,
+                "{hunts} hunts and {checks} checks are joint in {text}"
+            )?;
+        }
     }
     Ok(())
 }
@@ -89,15 +103,38 @@ fn short_hunts_are_hunted_by_one(rt: HostRuntime) -> Result<(), Fail> {
 /// How many workers hunt together.
 const SEVERAL: &[u8] = &[2, 3, 16];
 
-/// A load of the data before the swap, and a store to it after the lock is free, lose an addition. So each hart needs
-/// `r,r` behind its swap, for 3, and `w,w` before it gives the lock back, for 2.
-#[test]
-fn hunters_find_the_same_fences(rt: HostRuntime) -> Result<(), Fail> {
-    let alone = answered(&rt, rt.alloc(), LOCK, 1, 1_000_000, &Open)?;
-    assert!(rt; alone.starts_with("fenced 20 "));
-    for workers in SEVERAL {
-        let line = answered(&rt, rt.alloc(), LOCK, *workers, 1_000_000, &Open)?;
-        assert_eq!(rt; line.as_str(), alone.as_str());
+/// Adds what several workers answer otherwise than one. A load of the data before the swap, and a store to it after the
+/// lock is free, lose an addition. So each hart needs `r,r` behind its swap, for 3, and `w,w` before it gives the lock
+/// back, for 2.
+fn add_others<R: Threads + Wait + Sync>(
+    rt: &R,
+    alloc: Global,
+    several: &[u8],
+    wrong: &mut String,
+) -> Result<(), AllocError> {
+    let alone = answered(rt, alloc, LOCK, 1, 1_000_000, &Open)?;
+    if !alone.starts_with("fenced 20 ") {
+        add_wrong(LOCK, &alone, "fenced 20 ", wrong)?;
     }
+    for workers in several {
+        let line = answered(rt, alloc, LOCK, *workers, 1_000_000, &Open)?;
+        add_wrong(LOCK, &line, &alone, wrong)?;
+    }
+    Ok(())
+}
+
+/// What hunts by several workers come to otherwise than is wanted.
+fn wrong_hunts<R: Threads + Wait + Sync>(rt: &R, alloc: Global) -> Result<String, Fault> {
+    let mut wrong = String::new(alloc);
+    add_alone(rt, alloc, LOCK, &mut wrong)?;
+    add_joint(rt, alloc, SHORT, &mut wrong)?;
+    add_others(rt, alloc, SEVERAL, &mut wrong)?;
+    Ok(wrong)
+}
+
+#[test]
+fn hunters_join_and_find_the_same_fences(rt: HostRuntime) -> Result<(), Fail> {
+    let wrong = wrong_hunts(&rt, rt.alloc())?;
+    assert_eq!(rt; wrong.as_str(), "");
     Ok(())
 }

@@ -27,6 +27,8 @@ mod states;
 #[cfg(test)]
 mod states_texts;
 #[cfg(test)]
+mod tables;
+#[cfg(test)]
 mod workers;
 #[cfg(test)]
 mod wrong;

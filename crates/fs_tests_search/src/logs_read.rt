@@ -44,7 +44,7 @@ fn read(alloc: Global, log: &str) -> Result<String, AllocError> {
 }
 
 // Logs, and what is read of them.
-const LOGS: &[(&str, &str)] = &[
+pub(crate) const LOGS: &[(&str, &str)] = &[
     ("", "error: the log has no block of a test"),
     (
         "Tests SB Allowed\nTesting\n",
@@ -132,19 +132,15 @@ const LOGS: &[(&str, &str)] = &[
     ),
 ];
 
-/// The logs of which something else is read than the table says.
-fn wrong_logs(alloc: Global, rows: &[(&str, &str)]) -> Result<String, AllocError> {
-    let mut wrong = String::new(alloc);
+/// Adds the logs of which something else is read than the table says.
+pub(crate) fn add_wrong_logs(
+    alloc: Global,
+    rows: &[(&str, &str)],
+    wrong: &mut String,
+) -> Result<(), AllocError> {
     for (log, wanted) in rows {
         let found = read(alloc, log)?;
-        add_wrong(log, &found, wanted, &mut wrong)?;
+        add_wrong(log, &found, wanted, wrong)?;
     }
-    Ok(wrong)
-}
-
-#[test]
-fn logs_are_read(rt: HostRuntime) -> Result<(), AllocError> {
-    let wrong = wrong_logs(rt.alloc(), LOGS)?;
-    assert_eq!(rt; wrong.as_str(), "");
     Ok(())
 }

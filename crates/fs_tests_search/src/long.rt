@@ -4,7 +4,6 @@ use fs_board_search::{Unwatched, solve};
 use fs_kinds::Fault;
 use fs_tests_shared::{PRICES, SB, question_of};
 use std::alloc::Global;
-use std::test::Fail;
 
 /// Message passing over three harts, with two more loads in each: 64 nodes with a plan, and 190 without.
 const PASSED: &str = "RISCV MP-3-2
@@ -74,23 +73,23 @@ fn nodes(alloc: Global, text: &str) -> Result<usize, Fault> {
     }
 }
 
-/// Is each of the tests answered with so many nodes at most?
-fn are_few(alloc: Global, rows: &[(&str, usize)]) -> Result<bool, Fault> {
+/// The tests that are answered with more nodes, or with none.
+pub(crate) fn wrong_nodes(alloc: Global, rows: &[(&str, usize)]) -> Result<String, Fault> {
+    let mut wrong = String::new(alloc);
     for (text, most) in rows {
         let made = nodes(alloc, text)?;
         if made == 0 || made > *most {
-            return Ok(false);
+            write!(wrong, "{made} nodes: {text}")?;
         }
     }
-    Ok(true)
+    Ok(wrong)
 }
 
 /// Store buffering needs two fences, and they are posted only at a node where both slots are decided. So 15 nodes are
 /// the fewest: the root, seven that decide one of the slots, since six kinds are offered, and seven below one of these.
-const MOST_NODES: &[(&str, usize)] = &[(PASSED, 100), (BUFFERED, 100), (ADDERS, 1), (SB, 15)];
-
-#[test]
-fn hunts_and_plans_go_on_for_long(rt: HostRuntime) -> Result<(), Fail> {
-    assert!(rt; are_few(rt.alloc(), MOST_NODES)?);
-    Ok(())
-}
+pub(crate) const MOST_NODES: &[(&str, usize)] = &[
+    (PASSED, 100),
+    (BUFFERED, 100),
+    (ADDERS, 1),
+    (SB, 15),
+];

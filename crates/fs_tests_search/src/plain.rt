@@ -1,6 +1,9 @@
 //! Lists of final states, compared with a plain program that goes through all runs and all orders of their operations.
-ghost use Rattle.std.specs.Prelude.{◌≤◌, All, length};
-ghost use Rattle.fs_model.specs.Test.{IsBounded, IsStart};
+ghost use Rattle.std.specs.Prelude.{◌≡◌, ◌≤◌, All, length};
+ghost use Rattle.std.specs.Arc.{arc_value};
+ghost use Rattle.fs_kinds.specs.Placement.{slots_of};
+ghost use Rattle.fs_model.specs.Slots.{slots};
+ghost use Rattle.fs_model.specs.Test.{IsBounded, IsStart, IsTest};
 ghost use Rattle.fs_cand.specs.Candidates.{AreShort};
 
 use crate::made::made_test;
@@ -20,7 +23,6 @@ use fs_tests_shared::{
 use fs_values::Values;
 use std::alloc::{AllocError, Global};
 use std::sync::Arc;
-use std::test::Fail;
 
 /// The word with which the location ends in this order: that of its last store, or its first one.
 fn last_word(test: &Test, all: &[Operation], order: &[u8], location: u8) -> u32 {
@@ -187,17 +189,25 @@ fn fences_of(alloc: Global, test: &Test, number: usize) -> Result<String, Fault>
     Ok(words)
 }
 
-/// The states of the made test of this number with fences of its number, and which of them a plain program meets.
+/// The states of the test with the placement's fences, and which of them a plain program meets.
+fn marked(alloc: Global, test: &Arc<Test>, placement: &Placement) -> Result<Marks, Fault>
+    requires test { IsTest (arc_value test.now) }
+    requires placement { slots_of placement.now ≡ slots (arc_value test.now) }
+{
+    let places = places_of(alloc, test)?;
+    let found = states(alloc, test, placement, &places)?;
+    let mut marks = Marks::new(alloc, found)?;
+    mark_all(alloc, test, placement, &places, &mut marks)?;
+    Ok(marks)
+}
+
+/// The same of the made test of this number with fences of its number.
 fn compared(alloc: Global, number: usize) -> Result<Marks, Fault> {
     let text = made_test(alloc, number)?;
     let test = Arc::new(alloc, read_test(alloc, text.as_bytes())?)?;
     let fences = fences_of(alloc, &test, number)?;
     let placement = placement_of(alloc, &test, &fences)?;
-    let places = places_of(alloc, &test)?;
-    let found = states(alloc, &test, &placement, &places)?;
-    let mut marks = Marks::new(alloc, found)?;
-    mark_all(alloc, &test, &placement, &places, &mut marks)?;
-    Ok(marks)
+    marked(alloc, &test, &placement)
 }
 
 /// How many states the made tests below this number have; 0 where a plain program meets others.
@@ -213,9 +223,11 @@ fn states_met(alloc: Global, end: usize) -> Result<usize, Fault> {
     Ok(count)
 }
 
-#[test]
-fn made_tests_have_the_plain_states(rt: HostRuntime) -> Result<(), Fail> {
-    let count = states_met(rt.alloc(), 17)?;
-    assert!(rt; count > 24, "{count} states");
-    Ok(())
+/// How many states made tests have, where these are too few, or a plain program meets others.
+pub(crate) fn wrong_made(alloc: Global) -> Result<String, Fault> {
+    let count = states_met(alloc, 17)?;
+    if count > 24 {
+        return Ok(String::new(alloc));
+    }
+    Ok(format!(in alloc; "{count} states")?)
 }

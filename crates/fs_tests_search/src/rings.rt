@@ -5,7 +5,6 @@ ghost use Rattle.fs_pool.specs.Ring.{AreLinked, IsSameHand};
 use fs_kinds::Fault;
 use fs_pool::{Hand, gather, hands};
 use std::alloc::{AllocError, Global};
-use std::test::Fail;
 
 /// What a hand is to do.
 #[derive(Clone, Copy)]
@@ -142,30 +141,6 @@ fn write_emptiness(alloc: Global, text: &mut String) -> Result<(), Fault> {
     Ok(write!(text, "{}\n", hand.is_empty())?)
 }
 
-/// What hands of one, two and three workers do.
-fn all_played(alloc: Global) -> Result<String, Fault> {
-    let mut text = String::new(alloc);
-    write_counted(alloc, 2, TWO, &mut text)?;
-    write_played(alloc, 1, SINGLE, &mut text)?;
-    write_played(alloc, 3, THREE, &mut text)?;
-    write_emptiness(alloc, &mut text)?;
-    Ok(text)
-}
-
-#[test]
-fn hands_lose_nothing(rt: HostRuntime) -> Result<(), Fail> {
-    let text = all_played(rt.alloc())?;
-    assert_eq!(rt;
-        text.as_str(),
-        "2 and 1 left: 4 5 6 
-and 7 left
-1 2 and 2 3 4 left
-true false true
-"
-    );
-    Ok(())
-}
-
 /// All hands but the last one.
 fn without_last(mut hands: Vec<Hand>) -> Vec<Hand>
     ensures { AreLinked hands.items → AreLinked result.items }
@@ -174,10 +149,28 @@ fn without_last(mut hands: Vec<Hand>) -> Vec<Hand>
     hands
 }
 
-#[test]
-fn a_missing_hand_is_found_out(rt: HostRuntime) -> Result<(), Fail> {
-    let alloc = rt.alloc();
+/// Writes whether a missing hand is found out.
+fn write_missing(alloc: Global, text: &mut String) -> Result<(), Fault> {
     let one_of_two = without_last(hands(alloc, 2)?);
-    assert!(rt; matches!(gather(alloc, one_of_two), Err(Fault::StrangePass)));
-    Ok(())
+    let is_found_out = matches!(gather(alloc, one_of_two), Err(Fault::StrangePass));
+    Ok(write!(text, "found out: {is_found_out}\n")?)
 }
+
+/// What hands of one, two and three workers do.
+pub(crate) fn all_played(alloc: Global) -> Result<String, Fault> {
+    let mut text = String::new(alloc);
+    write_counted(alloc, 2, TWO, &mut text)?;
+    write_played(alloc, 1, SINGLE, &mut text)?;
+    write_played(alloc, 3, THREE, &mut text)?;
+    write_emptiness(alloc, &mut text)?;
+    write_missing(alloc, &mut text)?;
+    Ok(text)
+}
+
+/// Hands lose nothing, and a missing one is found out.
+pub(crate) const PLAYED: &str = "2 and 1 left: 4 5 6 
+and 7 left
+1 2 and 2 3 4 left
+true false true
+found out: true
+";

@@ -10,7 +10,6 @@ use fs_kinds::Fault;
 use fs_tests_shared::{CO_RR, PRICES, question_of};
 use std::alloc::{AllocError, Global};
 use std::sync::Arc;
-use std::test::Fail;
 
 /// The root of a new board.
 fn root(alloc: Global, board: &mut Board) -> Result<Option<Taken>, AllocError>
@@ -44,19 +43,18 @@ fn scout_after(alloc: Global, verdicts: usize) -> Result<Scout, Fault> {
     Ok(scout)
 }
 
-/// 15 verdicts aren't many; 16 are, up to 67 nodes, as long as there is one for every fourth.
-#[test]
-fn others_may_help_where_judging_takes_long(rt: HostRuntime) -> Result<(), Fail> {
-    let mut text = String::new(rt.alloc());
+/// Whether others may help after 15 verdicts, and after 16, with so many nodes. 15 verdicts aren't many; 16 are, up to 67
+/// nodes, as long as there is one for every fourth.
+pub(crate) fn may_help(alloc: Global) -> Result<String, Fault> {
+    let mut text = String::new(alloc);
     for verdicts in [15, 16] {
-        let scout = scout_after(rt.alloc(), verdicts)?;
+        let scout = scout_after(alloc, verdicts)?;
         for nodes in [0, 16, 67, 68] {
             write!(text, "{} ", scout.judges_much(nodes))?;
         }
     }
-    assert_eq!(rt;
-        text.as_str(),
-        "false false false false true true true false "
-    );
-    Ok(())
+    Ok(text)
 }
+
+/// What is said of these.
+pub(crate) const HELPED: &str = "false false false false true true true false ";

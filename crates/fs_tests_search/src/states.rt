@@ -1,15 +1,20 @@
 //! Final states of tests whose executions are known by reasoning, at the places that their conditions name.
 
+ghost use Rattle.std.specs.Prelude.{◌≡◌};
+ghost use Rattle.std.specs.Arc.{arc_value};
+ghost use Rattle.fs_kinds.specs.Placement.{slots_of};
+ghost use Rattle.fs_model.specs.Slots.{slots};
+ghost use Rattle.fs_model.specs.Test.{IsTest};
+
 use crate::places::places_of;
 use crate::states_texts::{ADDED, ASTRAY, BRANCH, LAST, TRUE, TWICE};
 use crate::wrong::add_wrong;
 use fs_judge_final_states::{State, states};
-use fs_kinds::Fault;
-use fs_litmus::read_test;
+use fs_kinds::{Fault, Placement};
+use fs_litmus::{Test, read_test};
 use fs_tests_shared::{CO_RR, LB, LRSC, MP, SB, TWO_WRITES, placement_of, told};
 use std::alloc::{AllocError, Global};
 use std::sync::Arc;
-use std::test::Fail;
 
 /// A line for each state: its words.
 fn lines_of(alloc: Global, states: &[State]) -> Result<String, AllocError> {
@@ -23,17 +28,25 @@ fn lines_of(alloc: Global, states: &[State]) -> Result<String, AllocError> {
     Ok(text)
 }
 
-/// The states of the test of this text with the fences that the words name.
-fn listed(alloc: Global, text: &str, fences: &str) -> Result<String, Fault> {
-    let test = Arc::new(alloc, read_test(alloc, text.as_bytes())?)?;
-    let placement = placement_of(alloc, &test, fences)?;
-    let places = places_of(alloc, &test)?;
-    let found = states(alloc, &test, &placement, &places)?;
+/// The states of the test with the placement's fences.
+fn states_text(alloc: Global, test: &Arc<Test>, placement: &Placement) -> Result<String, Fault>
+    requires test { IsTest (arc_value test.now) }
+    requires placement { slots_of placement.now ≡ slots (arc_value test.now) }
+{
+    let places = places_of(alloc, test)?;
+    let found = states(alloc, test, placement, &places)?;
     Ok(lines_of(alloc, found.as_slice())?)
 }
 
+/// The same of the test of this text with the fences that the words name.
+fn listed(alloc: Global, text: &str, fences: &str) -> Result<String, Fault> {
+    let test = Arc::new(alloc, read_test(alloc, text.as_bytes())?)?;
+    let placement = placement_of(alloc, &test, fences)?;
+    states_text(alloc, &test, &placement)
+}
+
 /// Tests, fences, and the words of each state with a point behind it.
-const ROWS: &[(&str, &str, &str)] = &[
+pub(crate) const STATES: &[(&str, &str, &str)] = &[
     // Each load may come before the other hart's store, unless a fence keeps it behind the own one: then one of them
     // comes last.
     (SB, "", " 0 0. 0 1. 1 0. 1 1."),
@@ -62,19 +75,15 @@ const ROWS: &[(&str, &str, &str)] = &[
     (ASTRAY, "", "fault F14 Astray P0:0"),
 ];
 
-/// The tests that have other states than the table says.
-fn wrong_states(alloc: Global, rows: &[(&str, &str, &str)]) -> Result<String, AllocError> {
-    let mut wrong = String::new(alloc);
+/// Adds the tests that have other states than the table says.
+pub(crate) fn add_wrong_states(
+    alloc: Global,
+    rows: &[(&str, &str, &str)],
+    wrong: &mut String,
+) -> Result<(), AllocError> {
     for (text, fences, wanted) in rows {
         let found = told(alloc, listed(alloc, text, fences))?;
-        add_wrong(text, &found, wanted, &mut wrong)?;
+        add_wrong(text, &found, wanted, wrong)?;
     }
-    Ok(wrong)
-}
-
-#[test]
-fn states_are_those_of_reasoning(rt: HostRuntime) -> Result<(), Fail> {
-    let wrong = wrong_states(rt.alloc(), ROWS)?;
-    assert_eq!(rt; wrong.as_str(), "");
     Ok(())
 }
