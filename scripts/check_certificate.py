@@ -119,17 +119,14 @@ COMPARES = {
     'eq': operator.eq, 'ne': operator.ne,
     'ltu': operator.lt, 'geu': operator.ge, 'gtu': operator.gt, 'leu': operator.le,
     'lt': lambda a, b: signed(a) < signed(b), 'ge': lambda a, b: signed(a) >= signed(b),
-    'gt': lambda a, b: signed(a) > signed(b), 'le': lambda a, b: signed(a) <= signed(b),
-}
+    'gt': lambda a, b: signed(a) > signed(b), 'le': lambda a, b: signed(a) <= signed(b)}
 COMPUTES = {
     'add': operator.add, 'sub': operator.sub, 'xor': operator.xor, 'or': operator.or_, 'and': operator.and_,
     'sll': lambda a, b: a << (b & 31), 'srl': lambda a, b: a >> (b & 31), 'sra': lambda a, b: signed(a) >> (b & 31),
     'slt': COMPARES['lt'], 'sltu': operator.lt, 'swap': lambda a, b: b, 'minu': min, 'maxu': max,
-    'min': lambda a, b: min(a, b, key=signed), 'max': lambda a, b: max(a, b, key=signed),
-}
+    'min': lambda a, b: min(a, b, key=signed), 'max': lambda a, b: max(a, b, key=signed)}
 RANGES = {'i': (-2048, 2047), 'm': (-2048, 2047), 'n': (0, 31), 'u': (0, 2 ** 20 - 1), 'c': (-2 ** 31, WORDS - 1),
           'o': (0, 0)}
-
 FORMS = {
     'lui': ('d,u', 'compute', operator.add), 'li': ('d,c', 'compute', operator.add),
     'nop': ('', 'compute', operator.add), 'mv': ('d,s', 'compute', operator.add),
@@ -137,8 +134,7 @@ FORMS = {
     'sext.w': ('d,s', 'compute', operator.add), 'sltiu': ('d,s,i', 'compute', operator.lt),
     'lw': ('d,m(a)', 'load', None), 'sw': ('v,m(a)', 'store', None), 'jal': ('z,l', 'jump', None),
     'j': ('l', 'jump', None), 'fence': ('f,f', 'fence', None), 'fence.tso': ('', 'fence', None),
-    'fence.i': ('', 'fence', None),
-}
+    'fence.i': ('', 'fence', None)}
 """Of each instruction (FORMAT 2) its operands, its form, and what it computes or when it jumps. Operands are d, the
 register rd; s, one to read plainly; v, the data; a, the address; z, the register x0; l, a label; f, the letters of a
 fence; and the numbers of RANGES, of which m and o may be left out before `(`. Other signs stand for themselves."""
@@ -811,8 +807,7 @@ RULES = [
     lambda preserved, a, b: b.loads and any(
         m is preserved.rf[b] and m.depends(a, m.instruction.address, m.instruction.data) for m in between(a, b)),
     # 13: b is a store, and the address of an instruction between them depends on a
-    lambda preserved, a, b: b.stores and any(step.depends(a, step.instruction.address) for step in between(a, b)),
-]
+    lambda preserved, a, b: b.stores and any(step.depends(a, step.instruction.address) for step in between(a, b))]
 
 
 class Preserved:

@@ -145,7 +145,6 @@ def expanded(text):
         if "#" in text or "§" in text:
             return "".join(text.replace("#", str(at)).replace("§", f"{at:x}") for at in range(count))
         return text * count
-
     return re.sub("«(.*?)×([0-9]+)»", repeated, text.replace("⏎", "\n").replace("␍", "\r"), flags=re.S)
 
 

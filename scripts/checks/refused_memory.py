@@ -56,7 +56,6 @@ def refuse(check, library, words, status, is_together):
             if os.path.exists(path):
                 is_well = rvfence("check", *own[1:3], path, cwd=TOP, stdin=read(TEST)).out.startswith("yes\n")
             return said, requests, is_well and not os.path.exists(f"{path}.part")
-
     name, runs = " ".join(words), [run(0) for _ in range(5 if is_together else 1)]
     whole, most = runs[-1][0], max(requests for _, requests, _ in runs)
     if whole.status != status or not most:
