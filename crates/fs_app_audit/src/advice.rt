@@ -19,7 +19,7 @@ use fs_litmus::Code;
 
 /// What is advised of a FENCE, or of an access at which none stands, by fences that rule an outcome out at the least
 /// cost.
-#[derive(Clone, Copy, Debug, PartialEq, Eq)]
+#[derive(Clone, Copy)]
 pub enum Advice {
     /// It is one of these fences.
     Needed,

@@ -9,7 +9,7 @@ use fs_litmus::Test;
 use std::alloc::{AllocError, Global};
 
 /// What fences are found for.
-#[derive(Clone, Copy, Debug, PartialEq, Eq)]
+#[derive(Clone, Copy)]
 pub enum Purpose {
     /// To say of each FENCE what the memory needs of it. Each counts that orders memory.
     Advise,

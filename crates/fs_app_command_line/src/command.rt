@@ -546,7 +546,7 @@ pub struct Test<'a> {
 }
 
 /// What is to be told below answers.
-#[derive(Clone, Copy, Debug)]
+#[derive(Clone, Copy)]
 pub enum Why<'a> {
     /// Nothing.
     Untold,
@@ -561,7 +561,7 @@ pub enum Why<'a> {
 }
 
 /// Where it is said what is expected of tests.
-#[derive(Clone, Copy, Debug)]
+#[derive(Clone, Copy)]
 pub enum Expectations<'a> {
     /// In comments of each test file.
     Comments,

@@ -5,7 +5,7 @@ use clap::{Arg, Command};
 use std::alloc::{AllocError, Global};
 
 /// A shell for which there is a script.
-#[derive(Clone, Copy, Debug, PartialEq, Eq)]
+#[derive(Clone, Copy)]
 pub enum Shell {
     Bash,
     Zsh,

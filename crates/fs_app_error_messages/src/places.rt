@@ -9,7 +9,7 @@ use crate::slices::up_to;
 use std::alloc::AllocError;
 
 /// A line and a column, both from 1 on, and the offset at which the line begins.
-#[derive(Clone, Copy, Debug)]
+#[derive(Clone, Copy)]
 pub struct Place {
     pub line: usize,
     pub column: usize,

@@ -24,7 +24,7 @@ use fs_litmus_tokens::{Token, tokens};
 use std::alloc::{AllocError, Global};
 
 /// What a message points at.
-#[derive(Clone, Copy, Debug)]
+#[derive(Clone, Copy)]
 pub enum Point {
     /// The token of this number, from 0 on, which begins at this offset.
     Token(usize, usize),
@@ -33,7 +33,7 @@ pub enum Point {
 }
 
 /// What a fault of a test file is pointed at by.
-#[derive(Clone, Copy, Debug)]
+#[derive(Clone, Copy)]
 enum Aim {
     /// The first byte that isn't UTF-8.
     Encoding,

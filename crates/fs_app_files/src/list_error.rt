@@ -5,7 +5,7 @@ use std::alloc::{AllocError, AllocFailed};
 use thiserror::Error;
 
 /// Why a list isn't read: the line that is printed, with no line end.
-#[derive(Clone, Copy, Debug, PartialEq, Eq, Error)]
+#[derive(Clone, Copy, Debug, Error)]
 pub enum ListError {
     /// It isn't UTF-8.
     #[error("error: what is expected isn't UTF-8")]

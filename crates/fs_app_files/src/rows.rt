@@ -11,7 +11,7 @@ use fs_app_test::Kind;
 use std::alloc::Global;
 
 /// What a list expects of the test of this name, and in which line, from 1 on.
-#[derive(Clone, Copy, Debug)]
+#[derive(Clone, Copy)]
 pub struct Row<'a> {
     pub line: usize,
     pub name: &'a str,

@@ -5,7 +5,7 @@ ghost use Rattle.fs_app_io.specs.Status.{code, status_of};
 use fs_kinds::Fault;
 
 /// How the program ends.
-#[derive(Clone, Copy, Debug, PartialEq, Eq)]
+#[derive(Clone, Copy, PartialEq, Eq)]
 pub enum Status {
     /// The test was placed, fences were found, the answer is yes, or each outcome is forbidden.
     Success,
@@ -45,7 +45,7 @@ impl Status {
 }
 
 /// What a run that met no fault prints on standard output, and how it ends.
-#[derive(Debug, Drop)]
+#[derive(Drop)]
 pub struct Output {
     pub text: String,
     pub status: Status,

@@ -7,7 +7,7 @@ use std::io::ErrorKind;
 use thiserror::Error;
 
 /// Why a file, or standard input, isn't read whole. It reads as what is said of the file.
-#[derive(Clone, Copy, Debug, PartialEq, Eq, Error)]
+#[derive(Clone, Copy, Debug, Error)]
 pub enum Unread {
     #[error("there is no such file")]
     Missing,

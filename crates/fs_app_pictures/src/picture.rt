@@ -16,7 +16,7 @@ pub(crate) struct Node {
 }
 
 /// What an arrow stands for.
-#[derive(Clone, Copy, Debug, PartialEq, Eq)]
+#[derive(Clone, Copy)]
 pub(crate) enum Ink {
     /// The second reads from the first.
     ReadsFrom,

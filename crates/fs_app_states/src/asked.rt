@@ -1,7 +1,7 @@
 //! What is asked for beside the states.
 
 /// What is printed beside the places of the condition and of `locations`, and beside the words of a state.
-#[derive(Clone, Copy, Debug, PartialEq, Eq)]
+#[derive(Clone, Copy)]
 pub struct Shown {
     /// Each register that an instruction of its hart writes, and all locations.
     pub all: bool,

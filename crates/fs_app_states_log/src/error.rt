@@ -10,7 +10,7 @@ use thiserror::Error;
 // test function.
 
 /// What should stand in a line of a log.
-#[derive(Clone, Copy, Debug, PartialEq, Eq, Error)]
+#[derive(Clone, Copy, Debug, Error)]
 pub enum Expected {
     /// The first line of a block, where a line begins with `Test`.
     #[error("`Test NAME Allowed`, `Test NAME Required` or `Test NAME Forbidden`")]
@@ -36,7 +36,7 @@ pub enum Expected {
 }
 
 /// Why a log can't be held against tests: the line that is printed, with no line end.
-#[derive(Clone, Copy, Debug, PartialEq, Eq, Error)]
+#[derive(Clone, Copy, Debug, Error)]
 pub enum LogError {
     /// It is longer than 1 GiB.
     #[error("error: the log is longer than 1073741824 bytes")]

@@ -3,7 +3,7 @@
 use fs_kinds::List;
 
 /// What a state says of one place: both as they are written.
-#[derive(Clone, Copy, Debug)]
+#[derive(Clone, Copy)]
 pub struct Item<'a> {
     /// A register, such as `0:x7`, or a location, such as `x` or `[x]`.
     pub place: &'a str,

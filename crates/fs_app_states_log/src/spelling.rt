@@ -17,7 +17,7 @@ use fs_kinds::List;
 use std::alloc::{AllocError, Global};
 
 /// How many states a block has, and whether each of them has a count.
-#[derive(Clone, Copy, Debug)]
+#[derive(Clone, Copy)]
 pub(crate) struct Count {
     pub(crate) states: u64,
     pub(crate) counted: bool,

@@ -4,7 +4,7 @@ use fs_cert_evidence::Witness;
 use fs_kinds::Fault;
 
 /// What kind of thing is said of a file.
-#[derive(Clone, Copy, Debug, PartialEq, Eq)]
+#[derive(Clone, Copy, PartialEq, Eq)]
 pub enum Kind {
     /// No execution of its test shows the outcome.
     Forbidden,
@@ -29,7 +29,7 @@ pub struct Said {
 }
 
 /// What a test is expected to be.
-#[derive(Clone, Copy, Debug, PartialEq, Eq)]
+#[derive(Clone, Copy)]
 pub enum Expected {
     /// This is to be said of it: that it is forbidden, allowed or vacuous.
     Verdict(Kind),

@@ -6,7 +6,7 @@ use fs_kinds::{List, OperationName, Placement};
 use std::marker::Model;
 
 /// A set of pairs of classes of operations, as one that an execution's order keeps at a slot.
-#[derive(Clone, Copy, Debug, PartialEq, Eq)]
+#[derive(Clone, Copy, PartialEq, Eq)]
 pub struct Pairs {
     pub read_read: bool,
     pub read_write: bool,
@@ -33,7 +33,7 @@ impl Model for Witness {
 
 /// Why an operation of a cycle comes before the next one: by a rule of preserved program order, or since the next one
 /// reads from it (rfe), comes later in coherence order (co), or overwrites what it read (fr).
-#[derive(Clone, Copy, Debug, PartialEq, Eq)]
+#[derive(Clone, Copy, PartialEq, Eq)]
 pub enum Cause {
     Rule1,
     Rule2,

@@ -5,7 +5,7 @@ use fs_kinds::{List, OperationName};
 
 /// What a certificate claims: in the first version that no cheaper placement forbids the outcome, in the others that
 /// the answer is the first of the cheapest. The fourth has a refutation in place of a list of cycles.
-#[derive(Clone, Copy, Debug, PartialEq, Eq)]
+#[derive(Clone, Copy, PartialEq, Eq)]
 pub enum Version {
     First,
     Second,

@@ -31,7 +31,7 @@ use fs_model_axioms::{Ordered, count_accesses, has_outcome, lists_each_once};
 use std::alloc::{AllocError, Global};
 
 /// What is said of a witness.
-#[derive(Clone, Copy, Debug, PartialEq, Eq)]
+#[derive(Clone, Copy, PartialEq, Eq)]
 pub enum OrderVerdict {
     /// It gives an execution of the fenced test that shows the outcome.
     Yes,

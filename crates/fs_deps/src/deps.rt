@@ -11,7 +11,7 @@ use std::alloc::Global;
 use std::marker::Model;
 
 /// The dependencies of one step of a run, each as a set of steps: bit k stands for step k.
-#[derive(Clone, Copy, Debug, PartialEq, Eq)]
+#[derive(Clone, Copy)]
 pub struct Masks {
     /// The steps on which it has an address dependency.
     pub address: u32,

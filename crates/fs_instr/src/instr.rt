@@ -17,7 +17,7 @@ use fs_litmus_tokens::Mark::{CloseParen, Comma, OpenParen};
 
 /// An instruction of the table (RV32I, and the extensions A and Zifencei, of the unprivileged manual, 20191213). Registers hold words
 /// of 32 bits, sums wrap, and all sources are read before the destination is written.
-#[derive(Clone, Copy, Debug, PartialEq, Eq)]
+#[derive(Clone, Copy, PartialEq, Eq)]
 pub enum Instr {
     /// `add rd,first,second` and its like.
     Register {

@@ -5,7 +5,7 @@ ghost use Rattle.std.specs.Prelude.{◌≡◌};
 ghost use Rattle.fs_instr.specs.FenceLetters.{letters_of, letters_text};
 
 /// The letters of one side of a FENCE: device input (i) and output (o), memory reads (r) and writes (w).
-#[derive(Clone, Copy, Debug, PartialEq, Eq)]
+#[derive(Clone, Copy, PartialEq, Eq)]
 pub struct Letters {
     pub input: bool,
     pub output: bool,

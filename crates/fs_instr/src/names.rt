@@ -12,7 +12,7 @@ ghost use Rattle.std.specs.Str.{bytes_eq};
 
 /// What an instruction of two registers computes: shifts by the low 5 bits of the second (`Sra` keeps the sign); `Slt`
 /// and `Sltu` give 1 where the first is less, signed and unsigned, and else 0.
-#[derive(Clone, Copy, Debug, PartialEq, Eq)]
+#[derive(Clone, Copy, PartialEq, Eq)]
 pub enum RegOp {
     Add,
     Sub,
@@ -27,7 +27,7 @@ pub enum RegOp {
 }
 
 /// What an instruction of a register and a sign-extended number computes; `Slti` compares signed, `Sltiu` unsigned.
-#[derive(Clone, Copy, Debug, PartialEq, Eq)]
+#[derive(Clone, Copy, PartialEq, Eq)]
 pub enum ImmOp {
     Addi,
     Xori,
@@ -38,7 +38,7 @@ pub enum ImmOp {
 }
 
 /// A shift by a number: to the left, to the right with zeros, to the right with the sign.
-#[derive(Clone, Copy, Debug, PartialEq, Eq)]
+#[derive(Clone, Copy, PartialEq, Eq)]
 pub enum ShiftOp {
     Slli,
     Srli,
@@ -46,7 +46,7 @@ pub enum ShiftOp {
 }
 
 /// When a branch goes to its target; `Blt` and `Bge` compare signed, `Bltu` and `Bgeu` unsigned.
-#[derive(Clone, Copy, Debug, PartialEq, Eq)]
+#[derive(Clone, Copy, PartialEq, Eq)]
 pub enum BranchOp {
     Beq,
     Bne,
@@ -58,7 +58,7 @@ pub enum BranchOp {
 
 /// What an AMO stores, of the word that it read and that of its source: `Swap` the source; `Min` and `Max` compare
 /// signed, `Minu` and `Maxu` unsigned.
-#[derive(Clone, Copy, Debug, PartialEq, Eq)]
+#[derive(Clone, Copy, PartialEq, Eq)]
 pub enum AmoOp {
     Swap,
     Add,
@@ -72,7 +72,7 @@ pub enum AmoOp {
 }
 
 /// The ordering annotations of an lr.w, an sc.w or an AMO: its bits aq and rl.
-#[derive(Clone, Copy, Debug, PartialEq, Eq)]
+#[derive(Clone, Copy, PartialEq, Eq)]
 pub struct Ann {
     pub acquire: bool,
     pub release: bool,
@@ -80,7 +80,7 @@ pub struct Ann {
 
 /// A row of the instruction table: a name, or the two of an annotation with both bits. From `Nop` on they are short for
 /// others.
-#[derive(Clone, Copy, Debug, PartialEq, Eq)]
+#[derive(Clone, Copy)]
 pub enum Op {
     Register(RegOp),
     Immediate(ImmOp),

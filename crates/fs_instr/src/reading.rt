@@ -13,14 +13,14 @@ use crate::operands::read_parts;
 use fs_litmus_tokens::{Kind, Token};
 
 /// An instruction as read; a branch or a jump has the target 0 still, and the label that it names.
-#[derive(Clone, Copy, Debug)]
+#[derive(Clone, Copy)]
 pub struct Parsed<'a> {
     pub instr: Instr,
     pub label: Option<&'a str>,
 }
 
 /// Why tokens are no instruction.
-#[derive(Clone, Copy, Debug, PartialEq, Eq)]
+#[derive(Clone, Copy)]
 pub enum Refused {
     /// They don't begin with a word, or the table has the name with operands of another shape or range.
     Form,

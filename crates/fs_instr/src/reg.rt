@@ -9,7 +9,7 @@ ghost use Rattle.fs_instr.specs.Registers.{register_of};
 use std::marker::Model;
 
 /// One of the 32 registers; x0 is always 0.
-#[derive(Clone, Copy, Debug, PartialEq, Eq)]
+#[derive(Clone, Copy, PartialEq, Eq)]
 pub struct Reg {
     number: u8,
 }

@@ -13,14 +13,14 @@ use fs_region_runs::Lone;
 use std::alloc::{AllocError, Global};
 
 /// A register and the word that it ends with.
-#[derive(Clone, Copy, Debug, PartialEq, Eq)]
+#[derive(Clone, Copy, PartialEq, Eq)]
 pub(crate) struct Known {
     pub register: u8,
     pub word: u32,
 }
 
 /// A word that is stored at an address.
-#[derive(Clone, Copy, Debug, PartialEq, Eq)]
+#[derive(Clone, Copy, PartialEq, Eq)]
 pub(crate) struct Stored {
     pub address: u32,
     pub word: u32,

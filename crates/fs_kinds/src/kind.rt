@@ -5,7 +5,7 @@ ghost use Rattle.fs_kinds.specs.Kind.{table_index, word, kind_of};
 
 /// A kind of fence, as `fence p,s` of the base instruction set with letters from `r` and `w`, or
 /// `fence.tso`. The variants stand in table order.
-#[derive(Clone, Copy, Debug, PartialEq, Eq, PartialOrd, Ord)]
+#[derive(Clone, Copy, PartialEq, Eq, PartialOrd, Ord)]
 pub enum Kind {
     /// `r,r`
     RR,
@@ -30,7 +30,7 @@ pub enum Kind {
 }
 
 /// Whether an operation reads, and whether it writes.
-#[derive(Clone, Copy, Debug, PartialEq, Eq)]
+#[derive(Clone, Copy)]
 pub struct Classes {
     pub reads: bool,
     pub writes: bool,

@@ -3,7 +3,7 @@ use std::fmt;
 
 /// The operation of instruction number `at` of a hart, with instructions counted from 0 in the test
 /// without placed fences.
-#[derive(Clone, Copy, Debug, PartialEq, Eq, PartialOrd, Ord)]
+#[derive(Clone, Copy, PartialEq, Eq, PartialOrd, Ord)]
 pub struct OperationName {
     pub hart: u8,
     pub at: u8,
@@ -11,7 +11,7 @@ pub struct OperationName {
 
 /// What is wrong with a witness or a certificate that is of its form. The first seven speak of an
 /// execution, the others of a certificate, whose cycles, tree items and witnesses count from 0.
-#[derive(Clone, Copy, Debug, PartialEq, Eq)]
+#[derive(Clone, Copy, PartialEq, Eq)]
 pub enum Reason {
     /// The hart's choices don't fit its run.
     Choices {

@@ -11,7 +11,7 @@ use std::fmt;
 /// A place for a fence: before the memory instruction number `at` of a hart, where an earlier memory
 /// instruction of that hart stands. Instructions count from 0 in the test without placed fences.
 /// Slots are in order of hart, then `at`.
-#[derive(Clone, Copy, Debug, PartialEq, Eq, PartialOrd, Ord)]
+#[derive(Clone, Copy, PartialEq, Eq, PartialOrd, Ord)]
 pub struct Slot {
     pub hart: u8,
     pub at: u8,

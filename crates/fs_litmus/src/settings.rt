@@ -10,14 +10,14 @@ use fs_litmus_tokens::{Target, Value, number_of};
 use fs_model::Location;
 
 /// What holds a word: a register of a hart, or a location by its number.
-#[derive(Clone, Copy, Debug, PartialEq, Eq, Hash)]
+#[derive(Clone, Copy, PartialEq, Eq, Hash)]
 pub enum Holder {
     Register(u32, u8),
     Location(usize),
 }
 
 /// A register or location with a word.
-#[derive(Clone, Copy, Debug)]
+#[derive(Clone, Copy)]
 pub struct Setting {
     pub holder: Holder,
     pub word: u32,

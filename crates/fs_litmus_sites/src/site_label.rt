@@ -2,7 +2,7 @@
 
 /// A site label. It stands right before the instruction of its hart before which `at` others stand, or at the end of
 /// the hart's code where it has no more.
-#[derive(Clone, Copy, Debug)]
+#[derive(Clone, Copy)]
 pub struct SiteLabel<'a> {
     /// The hart's number, from 0 on.
     pub hart: usize,

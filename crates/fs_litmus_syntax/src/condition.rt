@@ -3,7 +3,7 @@
 use fs_litmus_tokens::{Target, Value};
 
 /// An atom of a condition: a register or a location has a value, as written.
-#[derive(Clone, Copy, Debug)]
+#[derive(Clone, Copy)]
 pub struct Atom<'a> {
     pub target: Target<'a>,
     pub value: Value<'a>,

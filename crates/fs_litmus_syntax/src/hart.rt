@@ -19,7 +19,7 @@ use indexmap::IndexMap;
 use std::alloc::{AllocError, Global};
 
 /// The code of a hart: its instructions, or how many they are where they are too many.
-#[derive(Debug, Drop)]
+#[derive(Drop)]
 pub enum HartCode {
     /// At most `MOST_INSTRUCTIONS`, each branch with the number of the instruction that it goes to as its target, or
     /// how many instructions there are where it goes to the end.

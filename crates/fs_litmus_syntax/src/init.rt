@@ -14,7 +14,7 @@ use fs_litmus_tokens::{Class, Kind, Mark, Stop, Target, Token, Value};
 use std::alloc::{AllocError, Global};
 
 /// An initial value as written, and the line of the first token of its target.
-#[derive(Clone, Copy, Debug)]
+#[derive(Clone, Copy)]
 pub struct Entry<'a> {
     pub line: usize,
     pub target: Target<'a>,

@@ -14,7 +14,7 @@ use fs_litmus_tokens::{Class, Kind, Mark, Stop, Token};
 use std::alloc::{AllocError, Global};
 
 /// What a test asks of its condition: that it may hold, that it can't, or that it always does.
-#[derive(Clone, Copy, Debug, PartialEq, Eq)]
+#[derive(Clone, Copy)]
 pub enum Quantifier {
     Exists,
     NotExists,

@@ -10,7 +10,7 @@ use crate::word::{Class, class_of};
 use std::alloc::{AllocError, Global};
 
 /// The marks of the format: `{ } ; | , : = ( ) [ ] ~ - * & < > !`, and `/\` (and) and `\/` (or).
-#[derive(Clone, Copy, Debug, PartialEq, Eq)]
+#[derive(Clone, Copy, PartialEq, Eq)]
 pub enum Mark {
     OpenBrace,
     CloseBrace,
@@ -35,7 +35,7 @@ pub enum Mark {
 }
 
 /// What a token is: a word with its class and its text, a mark, or a character that belongs to no token.
-#[derive(Clone, Copy, Debug)]
+#[derive(Clone, Copy)]
 pub enum Kind<'a> {
     Word(Class, &'a str),
     Sign(Mark),
@@ -43,14 +43,14 @@ pub enum Kind<'a> {
 }
 
 /// A token, and the number of its line.
-#[derive(Clone, Copy, Debug)]
+#[derive(Clone, Copy)]
 pub struct Token<'a> {
     pub kind: Kind<'a>,
     pub line: usize,
 }
 
 /// What stands at the front of a text, with what comes after it and its line.
-#[derive(Clone, Copy, Debug)]
+#[derive(Clone, Copy)]
 pub enum Piece<'a> {
     Skip(&'a [u8], usize),
     Take(Kind<'a>, &'a [u8]),

@@ -9,7 +9,7 @@ ghost use Rattle.fs_litmus_tokens.specs.Words.{keyword_of, class_of};
 /// What a word may be read as, by its spelling alone (herd7's format of litmus tests). Each class but `Number` and
 /// `Other` has names only: a word that begins with a letter or `_` and has no `.`, so a keyword may name a location
 /// too.
-#[derive(Clone, Copy, Debug, PartialEq, Eq)]
+#[derive(Clone, Copy)]
 pub enum Class {
     /// Decimal digits, or `0x` and hexadecimal digits.
     Number,

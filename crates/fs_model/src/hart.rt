@@ -24,7 +24,7 @@ fn is_declared(locations: u8, address: u32) -> bool
 }
 
 /// A hart between two instructions.
-#[derive(Clone, Copy, Debug, PartialEq, Eq)]
+#[derive(Clone, Copy)]
 pub struct Hart {
     /// The position of the next instruction in the hart's code.
     pub at: u8,

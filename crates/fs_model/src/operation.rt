@@ -11,7 +11,7 @@ use fs_kinds::Classes;
 
 /// A memory operation: a load, a store, or both at once (RISC-V Unprivileged ISA 20191213, section "Memory Model
 /// Primitives"). An initial store of a location has no hart, and `nop` for its instruction.
-#[derive(Clone, Copy, Debug, PartialEq, Eq)]
+#[derive(Clone, Copy)]
 pub struct Operation {
     pub hart: Option<u8>,
     /// The place of its step in the hart's run, counted from 0.

@@ -3,7 +3,7 @@
 use fs_instr::Instr;
 
 /// One choice of a run: the word that an lw, an lr.w or an AMO loads, or whether an sc.w succeeds.
-#[derive(Clone, Copy, Debug, PartialEq, Eq)]
+#[derive(Clone, Copy, PartialEq, Eq)]
 pub enum Choice {
     /// The loaded word.
     Word(u32),
@@ -14,7 +14,7 @@ pub enum Choice {
 }
 
 /// One executed instruction, with its access to memory. A failed sc.w accesses nothing.
-#[derive(Clone, Copy, Debug, PartialEq, Eq)]
+#[derive(Clone, Copy, PartialEq, Eq)]
 pub struct Step {
     /// The instruction's position in its hart's code, counted from 0.
     pub at: u8,
@@ -28,7 +28,7 @@ pub struct Step {
 }
 
 /// Why choices make no whole run: the first that is met in the run.
-#[derive(Clone, Copy, Debug, PartialEq, Eq)]
+#[derive(Clone, Copy)]
 pub enum Stop {
     /// The choices are used up.
     Short,

@@ -53,7 +53,7 @@ impl Location {
 }
 
 /// Which final states a test asks for, as in the last section of herd7's litmus files.
-#[derive(Clone, Copy, Debug, PartialEq, Eq)]
+#[derive(Clone, Copy, PartialEq, Eq)]
 pub enum Quantifier {
     /// `exists`: a state of which the condition is true.
     Exists,

@@ -6,7 +6,7 @@ use fs_cert_evidence::Cause;
 use fs_kinds::{List, OperationName};
 
 /// What a chain comes to.
-#[derive(Clone, Copy, PartialEq, Eq)]
+#[derive(Clone, Copy)]
 pub enum Shape {
     /// The last operation comes before the first.
     Cycle,
@@ -17,7 +17,7 @@ pub enum Shape {
 }
 
 /// What leads from an operation of a chain to the next one.
-#[derive(Clone, Copy, PartialEq, Eq)]
+#[derive(Clone, Copy)]
 pub enum Arrow {
     /// It comes before the next one, for this cause.
     Because(Cause),

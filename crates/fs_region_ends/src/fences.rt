@@ -16,7 +16,7 @@ use fs_region_runs::Lone;
 use std::alloc::{AllocError, Global};
 
 /// A fence of a hart.
-#[derive(Clone, Copy, PartialEq, Eq)]
+#[derive(Clone, Copy)]
 pub enum Fence {
     /// One that is placed in a slot.
     Placed { slot: Slot, kind: Kind },

@@ -8,7 +8,7 @@ use std::sync::Arc;
 
 /// A place in a test, which is a copy of a site: before the instruction of this slot stands the fence of the site of
 /// this number. Any instruction will do, and a site past the last one has no fence.
-#[derive(Clone, Copy, Debug, PartialEq, Eq)]
+#[derive(Clone, Copy)]
 pub struct Place {
     pub slot: Slot,
     pub site: usize,

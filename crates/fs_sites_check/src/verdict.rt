@@ -21,7 +21,7 @@ use fs_sites_plan::first_breaking;
 use std::alloc::Global;
 
 /// Why a certificate is refused. Numbers count from 0.
-#[derive(Clone, Copy, Debug, PartialEq, Eq)]
+#[derive(Clone, Copy)]
 pub enum SitesReason {
     /// The answer isn't the first of the cheapest fences that break the executions of all witnesses, with its cost; or
     /// one of none has more or less than its witness.
