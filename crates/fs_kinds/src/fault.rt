@@ -7,7 +7,7 @@ use std::fmt;
 use thiserror::Error;
 
 /// Why a run ends with no answer. The variants stand in the order of their numbers, from F1 on.
-#[derive(Clone, Copy, Debug, PartialEq, Eq, Error)]
+#[derive(Clone, Copy, PartialEq, Eq, Error)]
 pub enum Fault {
     /// F1: the test file isn't UTF-8.
     BadUtf8,
@@ -59,7 +59,7 @@ pub enum Fault {
 }
 
 /// What a test has too much of.
-#[derive(Clone, Copy, Debug, PartialEq, Eq)]
+#[derive(Clone, Copy, PartialEq, Eq)]
 pub enum Limit {
     /// Harts.
     Harts,
@@ -199,5 +199,12 @@ impl fmt::Display for Fault {
             Fault::Astray { hart, at } => write!(f, " P{hart}:{at}"),
             _ => Ok(()),
         }
+    }
+}
+
+/// As it is displayed.
+impl fmt::Debug for Fault {
+    fn fmt<W: fmt::Write>(&self, f: &mut fmt::Formatter<W>) -> fmt::Result {
+        write!(f, "{self}")
     }
 }
