@@ -77,3 +77,12 @@ is_right_code p hart code = list_all (λ at. is_content (advice_of p hart code a
 
 abbrev pub is_right : List (List Instr) → List Entry → Bool
 is_right codes p = list_all (λ hart. is_right_code p hart (slice_index_or codes hart [])) (numbers_below (length codes))
+
+-- the kind of fence that is advised there: of a FENCE that stays its own, or none
+abbrev pub advised_kind : (own : Option Kind) → Advice → Option Kind
+advised_kind own Needed = own
+advised_kind own Unpriced = own
+advised_kind own (Enough kind) = Some kind
+advised_kind own (Instead kind) = Some kind
+advised_kind own (Missing kind) = Some kind
+advised_kind own _ = None

@@ -7,7 +7,7 @@ ghost use Rattle.fs_kinds.specs.Placement.{has_slot};
 ghost use Rattle.fs_app_audit.specs.Standing.{is_at};
 ghost use Rattle.fs_app_audit.specs.Advice.{graded, kind_there, advice_for, missing, is_device_fence, slot_of};
 ghost use Rattle.fs_app_audit.specs.Advice.{off_slot, advice_at, advice_of, changes_nothing, is_content, is_right_code};
-ghost use Rattle.fs_app_audit.specs.Advice.{is_right};
+ghost use Rattle.fs_app_audit.specs.Advice.{advised_kind, is_right};
 
 use crate::standing::{
     access_after, answering, covers, is_between_accesses, is_fence_at, is_memory_at, is_of,
@@ -39,6 +39,18 @@ pub enum Advice {
     Devices,
     /// One of this kind is missing.
     Missing(Kind),
+}
+
+/// The kind of fence that is advised where this one stands, or where none does: of a FENCE that stays its own, or none.
+/// In constant time.
+pub fn advised_kind(own: Option<Kind>, advice: Advice) -> Option<Kind>
+    ensures { result ≡ advised_kind own advice }
+{
+    match advice {
+        Advice::Needed | Advice::Unpriced => own,
+        Advice::Enough(kind) | Advice::Instead(kind) | Advice::Missing(kind) => Some(kind),
+        Advice::NotNeeded | Advice::NoSlot | Advice::Idle | Advice::Devices => None,
+    }
 }
 
 /// Is it a FENCE, or `fence.i`? Of one that orders memory this isn't asked.

@@ -24,7 +24,7 @@ pub mod slices;
 mod standing;
 mod written;
 
-pub use advice::{Advice, advice_of};
+pub use advice::{Advice, advice_of, advised_kind};
 pub use asked::Purpose;
 pub use audit::{Audited, run_anew, run_audit, status_of};
 pub use blocks::{Block, Found, are_named, audit_file, blocks_of, blocks_output, blocks_status};

@@ -1,23 +1,15 @@
 -- No object of a file has a float.
-use Rattle.std.proofs.Common.{◌≡◌, ℕ, Option, None, Some, false, List, [], ◌∷◌, map, refl, if◌then◌else◌}
+use Rattle.std.proofs.Common.{◌≡◌, ℕ, None, Some, false, List, [], ◌∷◌, map, refl, if◌then◌else◌}
 use Rattle.serde_json.specs.Written.{has_float, items_have_float}
-use Rattle.fs_kinds.specs.declared.kind.Kind.{Kind}
 use Rattle.fs_kinds.specs.declared.placement.Entry.{Entry}
 use Rattle.fs_model_laws.specs.InPlace.{memory_kind}
 use Rattle.fs_cert_evidence.specs.Texts.{items_of}
-use Rattle.fs_app_test.specs.Report.{number_or_null}
+use Rattle.fs_report.proofs.Whole.{kind_whole, number_whole}
+use Rattle.fs_app_audit.specs.Advice.{advised_kind}
 use Rattle.fs_app_audit.specs.Audit.{Findings}
-use Rattle.fs_app_audit_json.specs.Objects.{advised_kind, anew_value, cost_of, in_place_value, kind_or_null, row_value, vacuous_value}
+use Rattle.fs_app_audit_json.specs.Objects.{anew_value, cost_of, in_place_value, row_value, vacuous_value}
 use Rattle.fs_app_audit_json.specs.Rows.{rows_below, rows_in_place}
 use Rattle.fs_app_audit_json.specs.declared.rows.Row.{Row}
-
-pub kind_whole : (kind : Option Kind) → has_float (kind_or_null kind) ≡ false
-kind_whole None = refl
-kind_whole (Some kind) = refl
-
-pub number_whole : (n : Option ℕ) → has_float (number_or_null n) ≡ false
-number_whole None = refl
-number_whole (Some n) = refl
 
 row_whole : (row : Row) → has_float (row_value row) ≡ false
 row_whole row = rw (kind_whole (advised_kind (memory_kind row.instr) row.advice)) refl

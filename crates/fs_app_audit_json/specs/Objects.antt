@@ -1,9 +1,7 @@
 -- What `audit` finds as JSON, with the keys in the order of their bytes.
 use Rattle.std.specs.Prelude.{ℕ, Option, None, Some, List, ◌∷◌, [], codes, map, if◌then◌else◌}
-use Rattle.serde_json.specs.Data.{Data, null, object, string}
-use Rattle.fs_kinds.specs.declared.kind.Kind.{Kind}
+use Rattle.serde_json.specs.Data.{Data, object, string}
 use Rattle.fs_kinds.specs.declared.placement.Entry.{Entry}
-use Rattle.fs_kinds.specs.Kind.{word}
 use Rattle.fs_kinds.specs.PriceTable.{PriceTable}
 use Rattle.fs_kinds.specs.PriceTable as anew
 use Rattle.fs_kinds.specs.Slot.{place_name}
@@ -11,29 +9,16 @@ use Rattle.fs_model_laws.specs.InPlace.{memory_kind}
 use Rattle.fs_board_offers.specs.Offers as offers
 use Rattle.fs_cert_evidence.specs.Texts.{array_of, members_of, number}
 use Rattle.fs_app_test.specs.declared.said.Kind.{Kind as Said}
-use Rattle.fs_app_test.specs.Report.{kind_text, number_or_null}
+use Rattle.fs_report.specs.Values.{kind_or_null, number_or_null}
+use Rattle.fs_app_test.specs.Report.{kind_text}
 use Rattle.fs_app_audit.specs.Audit.{Findings}
 use Rattle.fs_app_audit.specs.InPlace.{offers_in_place, written_cost}
 use Rattle.fs_app_audit.specs.Report.{advice_text, fence_letters}
-use Rattle.fs_app_audit.specs.declared.advice.Advice.{Advice}
-use Rattle.fs_app_audit.specs.declared.advice.Advice.TheVariants.{Needed, Unpriced, Enough, Instead, Missing}
+use Rattle.fs_app_audit.specs.Advice.{advised_kind}
 use Rattle.fs_app_audit_json.specs.Rows.{rows_below, rows_in_place}
 use Rattle.fs_app_audit_json.specs.declared.rows.Row.{Row}
 
 -- ---- a line
-
--- the kind of fence that is advised there: of a FENCE that stays its own, or none
-abbrev pub advised_kind : (own : Option Kind) → Advice → Option Kind
-advised_kind own Needed = own
-advised_kind own Unpriced = own
-advised_kind own (Enough kind) = Some kind
-advised_kind own (Instead kind) = Some kind
-advised_kind own (Missing kind) = Some kind
-advised_kind own _ = None
-
-abbrev pub kind_or_null : Option Kind → Data
-kind_or_null None = null
-kind_or_null (Some kind) = string (word kind)
 
 abbrev pub row_value : Row → Data
 row_value row = object (members_of (

@@ -13,5 +13,4 @@ mod rows;
 pub use answered::{run_anew_object, run_audit_object};
 pub use files::{FoundObject, object_of_file, objects_of, objects_output};
 pub use laws::lines_are_of_rows;
-pub use row_values::{advised_kind, kind_or_null};
 pub use rows::{Row, rows_anew, rows_in_place};

@@ -7,11 +7,12 @@ ghost use Rattle.fs_app_audit.specs.inner.Made.{IsSound, findings_of};
 ghost use Rattle.fs_app_audit_json.specs.Objects.{anew_object, anew_value, in_place_object, in_place_value};
 ghost use Rattle.fs_app_audit_json.specs.Objects.{vacuous_value};
 
-use crate::cost::{cost_of, number_or_null, written_of};
+use crate::cost::{cost_of, written_of};
 use crate::row_values::rows_value;
 use crate::rows::{rows_below, rows_in_place};
 use fs_app_audit::{Findings, InPlace};
 use fs_app_test::{Kind, kind_text};
+use fs_report::number_or_null;
 use serde_json::{Value, json};
 use std::alloc::{AllocError, Global};
 

@@ -5,8 +5,8 @@ use Rattle.fs_cert_evidence.specs.Texts.{items_of}
 use Rattle.fs_report.proofs.Depths.{no_float}
 use Rattle.fs_sites.specs.declared.answer.Answer.{Answer}
 use Rattle.fs_sites.specs.declared.answer.Answer.TheVariants as answer
-use Rattle.fs_app_audit_json.specs.Objects.{advised_kind}
-use Rattle.fs_app_audit_json.proofs.Whole.{kind_whole, number_whole}
+use Rattle.fs_report.proofs.Whole.{kind_whole, number_whole}
+use Rattle.fs_app_audit.specs.Advice.{advised_kind}
 use Rattle.fs_app_sites.specs.declared.content.File.{File}
 use Rattle.fs_app_sites_audit.specs.Objects.{audit_value, line_value, lines_value, row_value, value_by}
 use Rattle.fs_app_sites_audit.specs.Printed.{Findings, found_lines}

@@ -6,12 +6,13 @@ use Rattle.fs_instr.specs.declared.instr.Instr.TheVariants.{FenceTso}
 use Rattle.fs_cert_evidence.specs.Texts.{array_of, members_of, number, witness_value}
 use Rattle.fs_model.specs.Witness.{Witness}
 use Rattle.fs_report.specs.Objects.{json_line}
+use Rattle.fs_report.specs.Values.{kind_or_null, number_or_null}
 use Rattle.fs_sites.specs.declared.answer.Answer.{Answer}
 use Rattle.fs_sites.specs.declared.answer.Answer.TheVariants as answer
 use Rattle.fs_app_test.specs.declared.said.Kind.{Kind}
-use Rattle.fs_app_test.specs.Report.{kind_text, number_or_null}
+use Rattle.fs_app_test.specs.Report.{kind_text}
 use Rattle.fs_app_audit.specs.Report.{advice_text}
-use Rattle.fs_app_audit_json.specs.Objects.{advised_kind, kind_or_null}
+use Rattle.fs_app_audit.specs.Advice.{advised_kind}
 use Rattle.fs_app_sites.specs.declared.content.File.{File}
 use Rattle.fs_app_sites.specs.Printed.{name_at}
 use Rattle.fs_app_sites_audit.specs.declared.lines.Line.{Line}

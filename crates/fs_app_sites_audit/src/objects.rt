@@ -4,7 +4,6 @@ ghost use Rattle.std.specs.Prelude.{◌≡◌, IfOk, map, string_bytes};
 ghost use Rattle.serde_json.specs.View.{view};
 ghost use Rattle.fs_cert_evidence.specs.Texts.{array_of};
 ghost use Rattle.fs_report.specs.Objects.{json_line};
-ghost use Rattle.fs_app_test.specs.Report.{number_or_null};
 ghost use Rattle.fs_app_sites_audit.specs.Printed.{found_lines};
 ghost use Rattle.fs_app_sites_audit.specs.Objects.{audit_value, fenced_value, line_value, lines_value, none_value};
 ghost use Rattle.fs_app_sites_audit.specs.Objects.{row_value};
@@ -13,24 +12,14 @@ use crate::findings::Findings;
 use crate::lines::Line;
 use crate::marks::Row;
 use crate::print::{fence_text, file_name, said_text, site_name};
-use fs_app_audit_json::{advised_kind, kind_or_null};
+use fs_app_audit::advised_kind;
 use fs_app_sites::File;
 use fs_app_test::{Kind as Verdict, kind_text};
 use fs_cert_evidence::Witness;
-use fs_report::{json_line, witness_value};
+use fs_report::{json_line, kind_or_null, number_or_null, witness_value};
 use fs_sites::Answer;
 use serde_json::{Value, json};
 use std::alloc::{AllocError, Global};
-
-/// The number, or null.
-fn number_or_null(number: Option<u64>) -> Value
-    ensures { view result ≡ number_or_null number }
-{
-    match number {
-        Some(number) => Value::from(number),
-        None => Value::Null,
-    }
-}
 
 // ---- a line of a site
 

@@ -5,7 +5,8 @@ use Rattle.std.specs.List.{flat_map, repeat}
 use Rattle.serde_json.specs.Data.{Data, null, object, string}
 use Rattle.serde_json.specs.Written.{compact_text}
 use Rattle.fs_model.specs.Printed.{ended, joined}
-use Rattle.fs_cert_evidence.specs.Texts.{members_of, number, witness_value}
+use Rattle.fs_report.specs.Values.{number_or_null}
+use Rattle.fs_cert_evidence.specs.Texts.{members_of, witness_value}
 use Rattle.fs_cert_evidence.specs.Evidence.{Shown}
 use Rattle.fs_app_error_messages.specs.Messages.{name_text}
 use Rattle.fs_app_test.specs.declared.said.Expected.{Expected}
@@ -102,10 +103,6 @@ abbrev pub report_text : (expects : Bool) → List Line → List ℕ
 report_text expects lines = flat_map (line_text expects (width lines)) lines ++ summary expects lines
 
 -- ---- as JSON, with the keys in the order of their bytes
-
-abbrev pub number_or_null : Option ℕ → Data
-number_or_null None = null
-number_or_null (Some n) = number n
 
 abbrev pub expected_value : Option Expected → Data
 expected_value None = null

@@ -1,3 +1,4 @@
 pub mod Depths
+pub mod Whole
 pub mod Values
 pub mod Steps

@@ -1,3 +1,4 @@
 pub mod Given
 pub mod Objects
+pub mod Values
 pub mod inner
