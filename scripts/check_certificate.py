@@ -142,6 +142,8 @@ for _name in ['add', 'sub', 'xor', 'or', 'and', 'sll', 'srl', 'sra', 'slt', 'slt
     FORMS[_name] = ('d,s,s', 'compute', COMPUTES[_name])
 for _name in ['add', 'xor', 'or', 'and', 'slt', 'sll', 'srl', 'sra']:
     FORMS[_name + 'i'] = ('d,s,n' if _name in ('sll', 'srl', 'sra') else 'd,s,i', 'compute', COMPUTES[_name])
+for _name in ['add', 'sub', 'sll', 'srl', 'sra', 'neg', 'addi', 'slli', 'srli', 'srai']:
+    FORMS[_name + 'w'] = FORMS[_name]                               # of the low 32 bits, which are all here
 for _name, _compare in COMPARES.items():
     FORMS['b' + _name] = ('s,s,l', 'branch', _compare)
     if not _name.endswith('u'):

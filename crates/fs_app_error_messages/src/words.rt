@@ -20,14 +20,6 @@ fn is_wide(word: &str) -> bool {
     matches!(word, "ld" | "sd" | "ld.aq" | "sd.rl") || word.ends_with(".d") || word.contains(".d.")
 }
 
-/// The name of an instruction of the table with a w behind it.
-fn is_of_rv64(word: &str) -> bool {
-    match word.strip_suffix("w") {
-        Some(name) => Op::of(name).is_some(),
-        None => false,
-    }
-}
-
 /// What is said of a word that is no mnemonic of the profile.
 pub(crate) fn unknown_words(word: &str) -> &'static str {
     if is_wide(word) {
@@ -35,9 +27,6 @@ pub(crate) fn unknown_words(word: &str) -> &'static str {
     }
     if is_narrow(word) {
         return "accesses of less than a word are left out: write `lw` or `sw`";
-    }
-    if is_of_rv64(word) {
-        return "registers have 32 bits here: write the mnemonic without its `w`";
     }
     if is_call(word) {
         return "calls and jumps to registers are left out: write the code in line";

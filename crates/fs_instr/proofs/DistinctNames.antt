@@ -2,7 +2,7 @@
 use Rattle.std.proofs.Common.{◌≡◌, ℕ, List, [], ◌∷◌, Bool, true, false, ◌&&◌, refl, not}
 use Rattle.std.specs.List.{IsDistinct, AllByRecursion}
 use Rattle.std.specs.Str.{bytes_eq}
-use Rattle.fs_instr.specs.Names.{all_names, register_names, immediate_names, branch_names, single_names, plain_names, acquiring_names, releasing_names, both_names, both_apart_names, short_names, short_branch_names}
+use Rattle.fs_instr.specs.Names.{all_names, register_names, immediate_names, branch_names, single_names, plain_names, acquiring_names, releasing_names, both_names, both_apart_names, short_names, short_branch_names, low_names}
 
 abbrev is_apart : List ℕ → List (List ℕ) → Bool
 is_apart name [] = true
@@ -34,5 +34,5 @@ distinct_all (name ∷ names) e =
     (apart_all name names both.0, distinct_all names both.1)
 
 pub names_once : IsDistinct bytes_eq all_names
-unfolding register_names immediate_names branch_names single_names plain_names acquiring_names releasing_names both_names both_apart_names short_names short_branch_names
+unfolding register_names immediate_names branch_names single_names plain_names acquiring_names releasing_names both_names both_apart_names short_names short_branch_names low_names
 names_once = distinct_all all_names refl

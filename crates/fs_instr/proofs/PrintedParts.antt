@@ -8,7 +8,7 @@ use Rattle.fs_litmus_tokens.specs.declared.word.Class.{Class}
 use Rattle.fs_litmus_tokens.specs.declared.token.Mark.TheVariants as mark
 use Rattle.fs_instr.specs.Rows.{look_up}
 use Rattle.std.specs.Option.{option_or}
-use Rattle.fs_instr.specs.Names.{op_of, name_text, register_names, immediate_names, branch_names, single_names, plain_names, acquiring_names, releasing_names, both_names, both_apart_names, short_names, short_branch_names}
+use Rattle.fs_instr.specs.Names.{op_of, name_text, register_names, immediate_names, branch_names, single_names, plain_names, acquiring_names, releasing_names, both_names, both_apart_names, short_names, short_branch_names, low_names}
 use Rattle.fs_instr.specs.FenceLetters.{letters_text}
 use Rattle.fs_instr.specs.Instructions.{parts_of, op_of_instr, operands_of, targeted}
 use Rattle.fs_instr.specs.OfTable.{IsImmediate, HasLetter, IsOfTable}
@@ -142,7 +142,7 @@ or_word None b y w one two e = two e
 or_word (Some x) b y w one two e = one e
 
 pub op_word : (w : List ℕ) (o : Op) → op_of w ≡ Some o → is_word w ≡ true
-unfolding op_of register_names immediate_names branch_names single_names plain_names acquiring_names releasing_names both_names both_apart_names short_names short_branch_names
+unfolding op_of register_names immediate_names branch_names single_names plain_names acquiring_names releasing_names both_names both_apart_names short_names short_branch_names low_names
 op_word w o e =
     or_word (look_up register_names w) _ o w (found_word register_names w o refl)
     (or_word (look_up immediate_names w) _ o w (found_word immediate_names w o refl)
@@ -154,7 +154,8 @@ op_word w o e =
     (or_word (look_up both_names w) _ o w (found_word both_names w o refl)
     (or_word (look_up both_apart_names w) _ o w (found_word both_apart_names w o refl)
     (or_word (look_up short_names w) _ o w (found_word short_names w o refl)
-    (found_word short_branch_names w o refl)))))))))) e
+    (or_word (look_up short_branch_names w) _ o w (found_word short_branch_names w o refl)
+    (found_word low_names w o refl))))))))))) e
 
 pub spelled_word : {c : Class} {w : List ℕ} {ts : List Tok} {i : Instr} {l : Option (List ℕ)} → Spells (Word c w ∷ ts) i l → is_word w ≡ true
 spelled_word (spells {w = w} {op = o} e h r) = op_word w o e

@@ -187,6 +187,21 @@ short_branch_names =
     (codes "bgtz", ZeroBranch Blt) ∷
     []
 
+-- of the low 32 bits, which are all that registers hold
+unfoldable pub low_names : List (List ℕ × Op)
+low_names =
+    (codes "addw", Register Add) ∷
+    (codes "subw", Register Sub) ∷
+    (codes "sllw", Register Sll) ∷
+    (codes "srlw", Register Srl) ∷
+    (codes "sraw", Register Sra) ∷
+    (codes "negw", OfZero Sub) ∷
+    (codes "addiw", Immediate Addi) ∷
+    (codes "slliw", Shift Slli) ∷
+    (codes "srliw", Shift Srli) ∷
+    (codes "sraiw", Shift Srai) ∷
+    []
+
 -- the row with this name
 unfoldable pub op_of : List ℕ → Option Op
 op_of word =
@@ -200,7 +215,8 @@ op_of word =
     option_or (look_up both_names word) (
     option_or (look_up both_apart_names word) (
     option_or (look_up short_names word) (
-    look_up short_branch_names word))))))))))
+    option_or (look_up short_branch_names word) (
+    look_up low_names word)))))))))))
 
 -- the names of: two registers
 abbrev pub register_text : Op → List ℕ
@@ -304,4 +320,4 @@ abbrev pub names_of : List (List ℕ × Op) → List (List ℕ)
 names_of rows = map (λ row. row.0) rows
 
 abbrev pub all_names : List (List ℕ)
-all_names = names_of register_names ++ names_of immediate_names ++ names_of branch_names ++ names_of single_names ++ names_of plain_names ++ names_of acquiring_names ++ names_of releasing_names ++ names_of both_names ++ names_of both_apart_names ++ names_of short_names ++ names_of short_branch_names
+all_names = names_of register_names ++ names_of immediate_names ++ names_of branch_names ++ names_of single_names ++ names_of plain_names ++ names_of acquiring_names ++ names_of releasing_names ++ names_of both_names ++ names_of both_apart_names ++ names_of short_names ++ names_of short_branch_names ++ names_of low_names

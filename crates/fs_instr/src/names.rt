@@ -6,7 +6,8 @@ ghost use Rattle.fs_instr.specs.Rows.{look_up};
 ghost use Rattle.fs_instr.specs.Names.{register_names, immediate_names, branch_names, single_names, plain_names};
 ghost use Rattle.fs_instr.specs.Names.{acquiring_names, releasing_names, both_names, both_apart_names, register_text};
 ghost use Rattle.fs_instr.specs.Names.{immediate_text, branch_text, single_text, plain, acquiring, releasing, both};
-ghost use Rattle.fs_instr.specs.Names.{annotation_of, name_text, op_of, all_names, short_names, short_branch_names};
+ghost use Rattle.fs_instr.specs.Names.{annotation_of, name_text, op_of, all_names, low_names, short_names};
+ghost use Rattle.fs_instr.specs.Names.{short_branch_names};
 ghost use Rattle.std.specs.List.{IsDistinct};
 ghost use Rattle.std.specs.Str.{bytes_eq};
 
@@ -199,6 +200,20 @@ macro_rules! names {
             "bgtz" => Op::ZeroBranch(BranchOp::Blt),
         }
     };
+    (low_of $use:ident $($arguments:tt)*) => {
+        $use! { [$($arguments)*]
+            "addw" => Op::Register(RegOp::Add),
+            "subw" => Op::Register(RegOp::Sub),
+            "sllw" => Op::Register(RegOp::Sll),
+            "srlw" => Op::Register(RegOp::Srl),
+            "sraw" => Op::Register(RegOp::Sra),
+            "negw" => Op::OfZero(RegOp::Sub),
+            "addiw" => Op::Immediate(ImmOp::Addi),
+            "slliw" => Op::Shift(ShiftOp::Slli),
+            "srliw" => Op::Shift(ShiftOp::Srli),
+            "sraiw" => Op::Shift(ShiftOp::Srai),
+        }
+    };
     (plain_of $use:ident $($arguments:tt)*) => {
         $use! { [$($arguments)*]
             "lr.w" => Op::Lr(Ann { acquire: false, release: false }),
@@ -375,6 +390,14 @@ fn short_branch_of(word: &str) -> Option<Op>
     names!(short_branch_of find word)
 }
 
+// Of the low 32 bits, which are all that registers hold.
+#[tactic(auto, unfolding(crate::specs::Names::low_names))]
+fn low_of(word: &str) -> Option<Op>
+    ensures { result ≡ look_up low_names word.now }
+{
+    names!(low_of find word)
+}
+
 macro_rules! text {
     ([$op:ident] $($text:literal => $row:pat,)*) => {
         match $op {
@@ -481,7 +504,10 @@ impl Op {
         if let Some(op) = short_of(word) {
             return Some(op);
         }
-        short_branch_of(word)
+        if let Some(op) = short_branch_of(word) {
+            return Some(op);
+        }
+        low_of(word)
     }
 
     /// The name that prints the row: `.aqrl` for both bits. Of what is short for a computation or for a branch, which

@@ -18,7 +18,7 @@ use Rattle.fs_litmus_tokens.specs.declared.word.Class.TheVariants as class
 use Rattle.fs_litmus_syntax.specs.Body.{is_stop}
 use Rattle.fs_model.specs.Test as tests
 use Rattle.fs_instr.specs.Rows.{look_up}
-use Rattle.fs_instr.specs.Names.{op_of, name_text, register_names, immediate_names, branch_names, single_names, plain_names, acquiring_names, releasing_names, both_names, both_apart_names, short_names, short_branch_names}
+use Rattle.fs_instr.specs.Names.{op_of, name_text, register_names, immediate_names, branch_names, single_names, plain_names, acquiring_names, releasing_names, both_names, both_apart_names, short_names, short_branch_names, low_names}
 use Rattle.fs_instr.specs.Instructions.{op_of_instr}
 use Rattle.fs_instr.specs.OfTable.{IsOfTable}
 use Rattle.fs_instr.specs.Spelled.{Spells, spells}
@@ -181,7 +181,7 @@ or_begins None b y w one two e = two e
 or_begins (Some x) b y w one two e = one e
 
 op_begins : (w : List ℕ) (o : Op) → op_of w ≡ Some o → begins_row w ≡ true
-unfolding class_of keyword_of is_number op_of register_names immediate_names branch_names single_names plain_names acquiring_names releasing_names both_names both_apart_names short_names short_branch_names
+unfolding class_of keyword_of is_number op_of register_names immediate_names branch_names single_names plain_names acquiring_names releasing_names both_names both_apart_names short_names short_branch_names low_names
 op_begins w o e =
     or_begins (look_up register_names w) _ o w (found_begins register_names w o refl)
     (or_begins (look_up immediate_names w) _ o w (found_begins immediate_names w o refl)
@@ -193,7 +193,8 @@ op_begins w o e =
     (or_begins (look_up both_names w) _ o w (found_begins both_names w o refl)
     (or_begins (look_up both_apart_names w) _ o w (found_begins both_apart_names w o refl)
     (or_begins (look_up short_names w) _ o w (found_begins short_names w o refl)
-    (found_begins short_branch_names w o refl)))))))))) e
+    (or_begins (look_up short_branch_names w) _ o w (found_begins short_branch_names w o refl)
+    (found_begins low_names w o refl))))))))))) e
 
 not_true : (b : Bool) → not b ≡ true → b ≡ false
 not_true true e = absurd (cc)
