@@ -4,7 +4,7 @@ use crate::program::{Voice, failure_of, report};
 use fs_app_command_line::States;
 use fs_app_files::{Papers, fault_object};
 use fs_app_io::{Output, Source, Status, sources};
-use fs_app_more_faults::explain_all_of_test;
+use fs_app_error_messages::explain_all_of_test;
 use fs_app_states::{Shown, run_states};
 use fs_app_states_log::{Compared, Log, LogError, MOST_BYTES, compare, left_over, read_log};
 use fs_kinds::Fault;

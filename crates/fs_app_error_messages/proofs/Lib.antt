@@ -8,3 +8,5 @@ pub mod Fine
 pub mod Stopping
 pub mod BadAtoms
 pub mod Bad
+pub mod Blanking
+pub mod Further

@@ -5,3 +5,5 @@ pub mod Points
 pub mod Messages
 pub mod Explained
 pub mod Atoms
+pub mod inner
+pub mod Faults

@@ -7,7 +7,7 @@ use fs_app_error_messages::{
     locate_test,
 };
 use fs_app_io::{INPUT_LIMIT, Missing, Source, Unread, read_file, read_input};
-use fs_app_more_faults::{explain_all, explain_all_of_test};
+use fs_app_error_messages::{explain_all, explain_all_of_test};
 use fs_app_test::Note;
 use fs_kinds::Fault;
 use std::alloc::{AllocError, Global};

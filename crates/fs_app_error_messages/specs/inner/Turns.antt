@@ -1,7 +1,7 @@
 -- Messages of a file, one after the other.
 use Rattle.std.specs.Prelude.{◌≡◌, ℕ, List, ◌++◌}
 use Rattle.fs_kinds.specs.declared.fault.Fault.{Fault}
-use Rattle.fs_app_more_faults.specs.Faults.{AreMessages}
+use Rattle.fs_app_error_messages.specs.Faults.{AreMessages}
 
 -- what is added to the text is such a text
 pub record Adds (P : List ℕ → Type 0) (old new : List ℕ) : Type 0 where

@@ -1,7 +1,7 @@
 //! Blanks over parts of a file.
 #![tactic(auto, using(crate::proofs::Blanking::blanking))]
 
-ghost use Rattle.fs_app_more_faults.specs.Faults.{IsBlank, IsBlanked};
+ghost use Rattle.fs_app_error_messages.specs.Faults.{IsBlank, IsBlanked};
 
 use crate::spans::Span;
 

@@ -1,6 +1,6 @@
 use Rattle.std.proofs.Common.{string_bytes}
-use Rattle.fs_app_more_faults.proofs.Telling.{finished, further}
-use Rattle.fs_app_more_faults.proofs.messages.messages_of.Goals as goal
+use Rattle.fs_app_error_messages.proofs.Further.{finished, further}
+use Rattle.fs_app_error_messages.proofs.all_messages.messages_of.Goals as goal
 
 pub returns-in-None : goal.returns-in-None
 returns-in-None c =

@@ -4,12 +4,12 @@ ghost use Rattle.std.specs.Prelude.{IfOk, IfSome, IsNone, OnOk, string_bytes};
 ghost use Rattle.fs_kinds.specs.declared.fault.Fault.{Fault};
 ghost use Rattle.fs_litmus.specs.Faults.{HasFault, IsTestFault};
 ghost use Rattle.fs_app_error_messages.specs.Explained.{IsMessage};
-ghost use Rattle.fs_app_more_faults.specs.Faults.{IsNext, AreMessages, AreToldOf};
-ghost use Rattle.fs_app_more_faults.specs.inner.Turns.{Adds};
+ghost use Rattle.fs_app_error_messages.specs.Faults.{IsNext, AreMessages, AreToldOf};
+ghost use Rattle.fs_app_error_messages.specs.inner.Turns.{Adds};
 
 use crate::blanks::blank;
 use crate::spans::spans_of;
-use fs_app_error_messages::explain;
+use crate::explain;
 use fs_kinds::Fault;
 use fs_litmus::read_test;
 use std::alloc::{AllocError, Global};

@@ -2,8 +2,8 @@
 use Rattle.std.proofs.Common.{◌≡◌, ◌++◌, List, ℕ, sym, subst, append_assoc}
 use Rattle.fs_kinds.specs.declared.fault.Fault.{Fault}
 use Rattle.fs_app_error_messages.specs.Explained.{IsMessage}
-use Rattle.fs_app_more_faults.specs.Faults.{IsNext, AreMessages, last, more}
-use Rattle.fs_app_more_faults.specs.inner.Turns.{Adds, LeadsTo}
+use Rattle.fs_app_error_messages.specs.Faults.{IsNext, AreMessages, last, more}
+use Rattle.fs_app_error_messages.specs.inner.Turns.{Adds, LeadsTo}
 
 pub finished : (name bytes left text new : List ℕ) (f g : Fault) → LeadsTo name bytes f left g text → Adds (IsMessage name left g) text new → AreMessages name bytes f new
 finished name bytes left text new f g leads a = subst (AreMessages name bytes f) (sym a.new_is) (leads a.added (last a.is))

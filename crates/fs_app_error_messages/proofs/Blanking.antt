@@ -1,7 +1,7 @@
 -- Blanks over parts of a file.
 use Rattle.std.proofs.Common.{◌<◌, inl, inr, ◌∙◌, ℕ, zero, suc, List, [], ◌∷◌, length, get_or, refl, arith}
 use Rattle.std.proofs.Math.ListN.{set}
-use Rattle.fs_app_more_faults.specs.Faults.{IsBlank, IsBlanked, end, byte}
+use Rattle.fs_app_error_messages.specs.Faults.{IsBlank, IsBlanked, end, byte}
 
 pub IsBlanked-same : (bs : List ℕ) → IsBlanked bs bs
 IsBlanked-same [] = end

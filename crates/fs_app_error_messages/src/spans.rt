@@ -3,7 +3,7 @@
 ghost use Rattle.std.specs.Prelude.{◌+◌, ◌≤◌, length};
 
 use crate::part::{Part, Spot};
-use fs_app_error_messages::{Point, body_start, point_of};
+use crate::{Point, body_start, point_of};
 use fs_kinds::Fault;
 use fs_litmus_tokens::{Kind, Mark, Token, tokens};
 use std::alloc::{AllocError, Global};

@@ -1,2 +1,0 @@
-pub mod Blanking
-pub mod Telling

@@ -1,5 +1,0 @@
-use Rattle.fs_app_more_faults.specs.Faults.{IsBlanked}
-use Rattle.fs_app_more_faults.proofs.blanks.blank.Given as goal
-
-abbrev pub invariant-loop-span : goal.invariant-loop-span
-invariant-loop-span l = IsBlanked l.fn.bytes l.bytes

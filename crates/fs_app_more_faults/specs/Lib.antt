@@ -1,2 +1,0 @@
-pub mod inner
-pub mod Faults
