@@ -18,11 +18,7 @@ pub use fs_app_files::{Kinds, ListError, Row, kind_by, kinds_of, read_rows, test
 pub use fs_app_io::{Output, Status, read_bytes, write_text};
 pub use fs_app_place_order::{run_order, run_place};
 pub use fs_app_solve::{Found, Gate, Open, Unwatched, Watch, run_solve, run_solve_alone};
-pub use fs_app_states::{Shown, run_states};
-pub use fs_app_states_log::{Compared, LogError, compare, left_over, read_log};
-pub use fs_app_test::{
-    Expected, Kind, Line, Note, Said, expected_of, test_file, test_objects, test_report,
-    vacuous_note,
-};
+pub use fs_app_states::{Compared, LogError, Shown, compare, left_over, read_log, run_states};
+pub use fs_app_test::{Expected, Kind, Line, Note, Said, expected_of, test_file, test_objects, test_report, vacuous_note};
 pub use fs_app_why::{why_allowed, why_certified, why_order};
 pub use program::run;

@@ -5,3 +5,10 @@ pub mod Report
 pub mod Objects
 pub mod Shown
 pub mod inner
+pub mod Lines
+pub mod Blocks
+pub mod Errors
+pub mod Tallies
+pub mod Rows
+pub mod Compared
+pub mod Left

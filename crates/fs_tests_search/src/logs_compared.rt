@@ -2,7 +2,7 @@
 
 use crate::wrong::add_wrong;
 use fs_app_io::Status;
-use fs_app_states_log::{compare, left_over, read_log};
+use fs_app_states::{compare, left_over, read_log};
 use std::alloc::{AllocError, Global};
 
 /// Store buffering: of its four states none is forbidden, and with w,r at both slots only the one without a 1.

@@ -1,7 +1,7 @@
 //! Logs worked by hand: what is read of them, in one text.
 
 use crate::wrong::add_wrong;
-use fs_app_states_log::{Log, Seen, read_log};
+use fs_app_states::{Log, Seen, read_log};
 use std::alloc::{AllocError, Global};
 
 /// How often a state was seen, where the log says so.

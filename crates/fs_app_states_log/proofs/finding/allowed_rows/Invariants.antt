@@ -1,7 +1,0 @@
-use Rattle.std.proofs.Common.{None, ◌≡◌, map, take}
-use Rattle.fs_app_states_log.specs.Tallies.{counted}
-use Rattle.fs_app_states_log.proofs.finding.allowed_rows.Given as goal
-
--- the rows so far
-abbrev pub invariant-loop-state : goal.invariant-loop-state
-invariant-loop-state l = map counted l.rows.items ≡ map (λ state. (state.words, None)) (take l.state-index l.states)
