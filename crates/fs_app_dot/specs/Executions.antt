@@ -15,7 +15,7 @@ use Rattle.fs_model.specs.Witness.{Witness}
 use Rattle.fs_litmus.specs.Reads.{Reads}
 use Rattle.fs_cert_evidence.specs.Shown.{IsShownBy, ShowsAs}
 use Rattle.fs_cert_evidence.specs.WitnessFile.{IsWitnessFile}
-use Rattle.fs_app_pictures.specs.Pictures.{IsPicture}
+use Rattle.fs_app_dot.specs.Pictures.{IsPicture}
 use Rattle.fs_app_why.specs.Traces.{as_list}
 use Rattle.fs_app_why.specs.Why.{NoWitnessShows, asked}
 use Rattle.fs_app_why_kinds.specs.declared.told.Telling.{Telling}

@@ -8,7 +8,7 @@ use Rattle.fs_region_ends.specs.declared.chain.Chain.{Chain}
 use Rattle.fs_region_ends.specs.declared.chain.Shape.{Shape}
 use Rattle.fs_region_ends.specs.declared.chain.Shape.TheVariants as shape
 use Rattle.fs_region_ends.specs.Kinds.{ChainKind, told_links}
-use Rattle.fs_app_pictures.specs.Pictures.{IsChainPicture}
+use Rattle.fs_app_dot.specs.Pictures.{IsChainPicture}
 use Rattle.fs_app_why.specs.Traces.{as_list}
 use Rattle.fs_app_why_kinds.specs.declared.told.Telling.{Telling}
 use Rattle.fs_app_why_kinds.specs.Told.{is_told, kind_at, told_chain}

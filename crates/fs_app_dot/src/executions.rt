@@ -2,10 +2,10 @@
 
 ghost use Rattle.std.specs.Prelude.{◌≡◌, ◌++◌, IfOk, codes, string_bytes};
 ghost use Rattle.fs_app_dot.specs.Executions.{execution_title};
-ghost use Rattle.fs_app_pictures.specs.Pictures.{IsPicture};
+ghost use Rattle.fs_app_dot.specs.Pictures.{IsPicture};
 
 use crate::picture::{Page, Picture};
-use fs_app_pictures::execution_picture;
+use crate::pictures::execution_picture;
 use fs_check::OrderedCandidate;
 use fs_kinds::Placement;
 use std::alloc::{AllocError, Global};

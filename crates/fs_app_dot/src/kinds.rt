@@ -3,12 +3,12 @@
 ghost use Rattle.std.specs.Prelude.{◌≡◌, ◌<◌, length, option_copied, IfOk, string_bytes};
 ghost use Rattle.fs_app_dot.specs.Kinds.{AreOfKinds, IsDrawn, IsOfNumber, chain_name, chain_title};
 ghost use Rattle.fs_app_dot.specs.Kinds.{shape_name, shape_text, told_there};
-ghost use Rattle.fs_app_pictures.specs.Pictures.{IsChainPicture};
+ghost use Rattle.fs_app_dot.specs.Pictures.{IsChainPicture};
 ghost use Rattle.fs_app_why_kinds.specs.Told.{told_chain};
 ghost use Rattle.fs_region_ends.specs.Kinds.{told_links};
 
 use crate::picture::{Page, Picture, push_found};
-use fs_app_pictures::chain_picture;
+use crate::pictures::chain_picture;
 use fs_app_why_kinds::{Telling, is_told, told_place};
 use fs_region_ends::{Chain, ChainKind, Shape, told_links};
 use std::alloc::{AllocError, Global};

@@ -2,12 +2,20 @@
 #![tactic(auto)]
 
 mod certified;
+mod chain;
+mod dot;
+mod execution;
 mod executions;
 mod forbidden;
+mod graph;
 mod kinds;
+mod labels;
+mod nodes;
 mod order;
 mod picture;
+mod pictures;
 mod possible;
+mod quoted;
 mod without;
 
 pub use certified::certified_pictures;

@@ -7,7 +7,7 @@ ghost use Rattle.fs_kinds.specs.Placement.{has_slot, with_kind};
 ghost use Rattle.fs_model.specs.Test.{IsTest};
 ghost use Rattle.fs_model.specs.Witness.{Witness};
 ghost use Rattle.fs_cert_evidence.specs.WitnessFile.{KeepsWitness};
-ghost use Rattle.fs_app_pictures.specs.Pictures.{IsPicture};
+ghost use Rattle.fs_app_dot.specs.Pictures.{IsPicture};
 ghost use Rattle.fs_app_why.specs.Why.{asked, is_passed};
 ghost use Rattle.fs_app_dot.specs.Executions.{AreOfFences, IsOfEntry, IsWithout, without_name, without_title};
 

@@ -1,5 +1,5 @@
 use Rattle.std.proofs.Common.{◌∙◌, string_bytes, subst}
-use Rattle.fs_app_pictures.specs.Pictures.{IsPicture}
+use Rattle.fs_app_dot.specs.Pictures.{IsPicture}
 use Rattle.fs_app_dot.proofs.without.drawn_without.Goals as goal
 
 pub returns-clause-drawn : goal.returns-clause-drawn

@@ -1,7 +1,0 @@
-use Rattle.std.proofs.Common.{◌≡◌, flat_map, take, string_bytes}
-use Rattle.fs_app_pictures.specs.Dot.{name_in}
-use Rattle.fs_app_pictures.proofs.dot.names.Given as goal
-
--- the names so far
-abbrev pub invariant-loop-node : goal.invariant-loop-node
-invariant-loop-node l = string_bytes l.text ≡ flat_map (name_in l.place) (take l.node-index l.nodes)

@@ -1,7 +1,0 @@
-use Rattle.std.proofs.Common.{◌≡◌, flat_map, take, string_bytes}
-use Rattle.fs_app_pictures.specs.Dot.{order_between}
-use Rattle.fs_app_pictures.proofs.dot.order_from.Given as goal
-
--- the pairs so far
-abbrev pub invariant-loop-b : goal.invariant-loop-b
-invariant-loop-b l = string_bytes l.text ≡ flat_map (order_between l.edges l.a) (take l.b-index l.nodes)

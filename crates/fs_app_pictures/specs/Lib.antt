@@ -1,4 +1,0 @@
-pub mod Quoted
-pub mod Dot
-pub mod Chains
-pub mod Pictures
