@@ -19,6 +19,9 @@ pub use fs_app_io::{Output, Status, read_bytes, write_text};
 pub use fs_app_place_order::{run_order, run_place};
 pub use fs_app_solve::{Found, Gate, Open, Unwatched, Watch, run_solve, run_solve_alone};
 pub use fs_app_states::{Compared, LogError, Shown, compare, left_over, read_log, run_states};
-pub use fs_app_test::{Expected, Kind, Line, Note, Said, expected_of, test_file, test_objects, test_report, vacuous_note};
+pub use fs_app_test::{
+    Expected, Kind, Line, Note, Said, expected_of, test_file, test_objects, test_report,
+    vacuous_note,
+};
 pub use fs_app_why::{why_allowed, why_certified, why_order};
 pub use program::run;

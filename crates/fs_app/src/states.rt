@@ -2,10 +2,12 @@
 use crate::failure::Failure;
 use crate::program::{Voice, failure_of, report};
 use fs_app_command_line::States;
+use fs_app_error_messages::explain_all_of_test;
 use fs_app_files::{Papers, fault_object};
 use fs_app_io::{Output, Source, Status, sources};
-use fs_app_error_messages::explain_all_of_test;
-use fs_app_states::{Compared, Log, LogError, MOST_BYTES, Shown, compare, left_over, read_log, run_states};
+use fs_app_states::{
+    Compared, Log, LogError, MOST_BYTES, Shown, compare, left_over, read_log, run_states,
+};
 use fs_kinds::Fault;
 use std::alloc::Global;
 use std::rt::Files;

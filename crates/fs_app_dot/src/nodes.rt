@@ -1,7 +1,7 @@
 //! The boxes of a picture: all memory instructions of the test.
 
-use crate::labels::write_head;
 use crate::graph::Node;
+use crate::labels::write_head;
 use fs_instr::Instr;
 use fs_kinds::{List, OperationName};
 use fs_model::{Name, Test};

@@ -8,8 +8,8 @@ ghost use Rattle.fs_app_error_messages.specs.Faults.{IsNext, AreMessages, AreTol
 ghost use Rattle.fs_app_error_messages.specs.inner.Turns.{Adds};
 
 use crate::blanks::blank;
-use crate::spans::spans_of;
 use crate::explain;
+use crate::spans::spans_of;
 use fs_kinds::Fault;
 use fs_litmus::read_test;
 use std::alloc::{AllocError, Global};

@@ -13,9 +13,8 @@ ghost use Rattle.fs_app_states.specs.declared.log.Seen.{Seen as Seens};
 
 use crate::setting::{is_place, settings_of, words_at};
 use crate::tally::Row;
-use crate::{Block, Expected, Item, LogError, Seen};
+use crate::{Block, Column, Expected, Item, LogError, Seen, place_named};
 use fs_app_error_messages::shown_name;
-use crate::{Column, place_named};
 use fs_judge_final_states::Place;
 use fs_kinds::List as Items;
 use fs_model::{Name, Test};

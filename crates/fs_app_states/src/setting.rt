@@ -7,8 +7,7 @@ ghost use Rattle.fs_app_states.specs.Rows.{is_place, word_at, IsSetting};
 ghost use Rattle.fs_app_states.specs.declared.log.Item.{Item as Items};
 
 use crate::value::word_in;
-use crate::{Expected, Item, LogError, Seen};
-use crate::{Column, place_named};
+use crate::{Column, Expected, Item, LogError, Seen, place_named};
 use fs_instr::Reg;
 use fs_judge_final_states::Place;
 use fs_model::Test;

@@ -8,8 +8,8 @@ ghost use Rattle.fs_app_states.specs.Compared.{first_line, compared_text, lackin
 ghost use Rattle.fs_app_states.specs.Tallies.{counted};
 
 use crate::tally::Row;
-use fs_app_error_messages::shown_name;
 use crate::{Column, push_state};
+use fs_app_error_messages::shown_name;
 use fs_kinds::List;
 use fs_model::Location;
 use std::alloc::{AllocError, Global};
