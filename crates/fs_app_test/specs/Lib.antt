@@ -6,3 +6,4 @@ pub mod Notes
 pub mod Verdicts
 pub mod Report
 pub mod inner
+pub mod Vacuous

@@ -2,3 +2,6 @@
 pub mod Objects
 pub mod Parts
 pub mod Vacuities
+pub mod Settled
+pub mod Ends
+pub mod Runs
