@@ -13,8 +13,8 @@ use Rattle.fs_model.specs.Slots.{slots}
 use Rattle.fs_model.specs.Test.{IsTest}
 use Rattle.fs_litmus.specs.Reads.{Reads}
 use Rattle.fs_litmus.specs.Faults.{IsTestFault}
-use Rattle.fs_litmus_sites.specs.SiteLabels.{SiteLabel}
-use Rattle.fs_litmus_sites.specs.Sited.{HasSites, IsSiteFault}
+use Rattle.fs_litmus.specs.SiteLabels.{SiteLabel}
+use Rattle.fs_litmus.specs.Sited.{HasSites, IsSiteFault}
 use Rattle.fs_board_offers.specs.Offers.{Offer, Offers}
 use Rattle.fs_sites.specs.Questions.{Part, Question}
 use Rattle.fs_sites.specs.declared.question.Place.{Place}

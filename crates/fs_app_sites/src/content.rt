@@ -6,15 +6,14 @@ ghost use Rattle.std.specs.List.{list_all};
 ghost use Rattle.fs_kinds.specs.Slot.{is_before, is_rising};
 ghost use Rattle.fs_kinds.specs.declared.fault.Fault.TheVariants.{Memory, Unmatched};
 ghost use Rattle.fs_litmus.specs.Reads.{Reads};
-ghost use Rattle.fs_litmus_sites.specs.SiteLabels.{site_label_of};
+ghost use Rattle.fs_litmus.specs.SiteLabels.{site_label_of};
 ghost use Rattle.fs_model.specs.Test.{IsBounded, IsTest};
 ghost use Rattle.fs_app_sites.specs.Sites.{HaveAllCopies, HaveCopies, IsContent, IsFileFault, IsLabelsFault};
 ghost use Rattle.fs_app_sites.specs.Sites.{all_copies, copy_of, copy_value, slots_of};
 
 use crate::free::add_slots;
 use fs_kinds::{Fault, List, Slot};
-use fs_litmus::{Test, read_test};
-use fs_litmus_sites::{SiteLabel, read_site_labels};
+use fs_litmus::{SiteLabel, Test, read_site_labels, read_test};
 use std::alloc::{AllocError, Global};
 use std::marker::Model;
 use std::sync::Arc;

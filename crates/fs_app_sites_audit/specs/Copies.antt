@@ -9,8 +9,8 @@ use Rattle.fs_model.specs.declared.test.Test.{Test}
 use Rattle.fs_model_laws.specs.InPlace.{followed, written_at}
 use Rattle.fs_litmus.specs.Lines.{StandIn}
 use Rattle.fs_litmus.specs.Reads.{Reads}
-use Rattle.fs_litmus_sites.specs.SiteLabels.{SiteLabel}
-use Rattle.fs_litmus_sites.specs.Sited.{HasSites}
+use Rattle.fs_litmus.specs.SiteLabels.{SiteLabel}
+use Rattle.fs_litmus.specs.Sited.{HasSites}
 use Rattle.fs_app_sites.specs.declared.content.File.{File}
 use Rattle.fs_app_sites.specs.Sites.{Content, Copy, HaveCopies, IsFileFault}
 use Rattle.fs_app_sites_audit.specs.Files.{IsFirstIn}

@@ -59,3 +59,10 @@ pub mod PrintedMeaningValues
 pub mod PrintedReads
 pub mod PrintedFaults
 pub mod Fencing
+pub mod Stems
+pub mod Ends
+pub mod Harts
+pub mod Clashes
+pub mod Forms
+pub mod Branches
+pub mod Standing

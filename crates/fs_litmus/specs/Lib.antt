@@ -10,3 +10,7 @@ pub mod Faults
 pub mod Checks
 pub mod Fence
 pub mod inner
+pub mod SiteName
+pub mod SiteLabels
+pub mod Sited
+pub mod Standing

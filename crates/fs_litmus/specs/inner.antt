@@ -3,3 +3,4 @@ pub mod Kept
 pub mod Sections
 pub mod Printable
 pub mod Written
+pub mod Fronts

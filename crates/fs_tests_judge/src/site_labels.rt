@@ -2,7 +2,7 @@
 
 use crate::wrong::add_wrong;
 use fs_kinds::Fault;
-use fs_litmus_sites::read_site_labels;
+use fs_litmus::read_site_labels;
 use std::alloc::{AllocError, Global};
 
 /// The site labels, or the fault's line, of a test of two harts with these rows, of which the first stands in line 4.

@@ -1,5 +1,5 @@
 use Rattle.std.proofs.Common.{◌≡◌, map, take}
-use Rattle.fs_litmus_sites.specs.SiteLabels.{site_label_of}
+use Rattle.fs_litmus.specs.SiteLabels.{site_label_of}
 use Rattle.fs_app_sites.specs.Sites.{copy_of, copy_value}
 use Rattle.fs_app_sites.proofs.content.copies_of.Given as goal
 

@@ -1,5 +1,5 @@
 use Rattle.std.proofs.Common.{◌≡◌, map, take}
-use Rattle.fs_litmus_sites.specs.SiteLabels.{all_of}
+use Rattle.fs_litmus.specs.SiteLabels.{all_of}
 use Rattle.fs_app_sites_audit.proofs.held.label_lines.Given as goal
 
 -- those of the labels so far

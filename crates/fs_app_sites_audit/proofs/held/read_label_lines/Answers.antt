@@ -1,5 +1,5 @@
 use Rattle.std.proofs.Common.{ap, map, ◌∙◌}
-use Rattle.fs_litmus_sites.specs.SiteLabels.{all_of}
+use Rattle.fs_litmus.specs.SiteLabels.{all_of}
 use Rattle.fs_app_sites_audit.proofs.held.read_label_lines.Goals as goal
 
 pub returns-clause-ok : goal.returns-clause-ok

@@ -1,7 +1,7 @@
 use Rattle.std.proofs.Common.{subst, sym, ◌∙◌}
 use Rattle.fs_app_place_order.proofs.Faults.{IfErr-handed}
 use Rattle.fs_litmus.specs.Lines.{StandIn}
-use Rattle.fs_litmus_sites.specs.Sited.{broken}
+use Rattle.fs_litmus.specs.Sited.{broken}
 use Rattle.fs_app_sites_audit.specs.Copies.{LabelsStandIn}
 use Rattle.fs_app_sites_audit.proofs.held.read_written.Goals as goal
 

@@ -1,6 +1,0 @@
-use Rattle.std.proofs.Common.{sym, ◌∙◌, arith}
-use Rattle.fs_litmus_sites.proofs.Clashes.{no_clash}
-use Rattle.fs_litmus_sites.proofs.reader.clash.Goals as goal
-
-pub returns : goal.returns
-returns c = sym (no_clash c.loop-rest.rest.now (omega arith)) ∙ c.loop-rest.invariant

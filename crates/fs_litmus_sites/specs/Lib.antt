@@ -1,5 +1,0 @@
-pub mod SiteName
-pub mod SiteLabels
-pub mod Sited
-pub mod Standing
-pub mod inner
