@@ -10,7 +10,7 @@ use Rattle.fs_app_sites_place.specs.Place.{IsSitesText, IsFirstSitesPlaceFault}
 use Rattle.fs_app_sites_place.specs.Order.{IsSitesOrderAnswer, IsFirstSitesOrderFault}
 use Rattle.fs_report.specs.Objects.{AreOneAnswer}
 use Rattle.fs_app_solve.specs.Solve.{IsSolved}
-use Rattle.fs_app_solve_text.specs.Inserted.{IsInserted}
+use Rattle.fs_app_file_text.specs.Inserted.{IsInserted}
 use Rattle.fs_app_sites.specs.Solved.{IsSolved as IsSitesSolved}
 use Rattle.fs_app_sites.specs.declared.content.File.{File}
 use Rattle.fs_app_sites.specs.declared.content.Tests.{Tests}

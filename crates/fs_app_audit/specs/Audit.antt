@@ -32,8 +32,8 @@ use Rattle.fs_app_place_order.specs.Place.{ArePricesOf, IsPricesFault}
 use Rattle.fs_app_test.specs.declared.said.Kind.{Kind}
 use Rattle.fs_app_test.specs.declared.said.Kind.TheVariants as verdict
 use Rattle.fs_app_test.specs.SaidVerdicts.{IsFaultOf, IsForbidden, IsTestedAs}
-use Rattle.fs_app_audit_text.specs.Kept.{keeps}
-use Rattle.fs_app_audit_text.specs.Rewritten.{rewritten}
+use Rattle.fs_app_file_text.specs.Kept.{keeps}
+use Rattle.fs_app_file_text.specs.Rewritten.{rewritten}
 use Rattle.fs_app_audit.specs.Unfenced.{eased, is_fence, memory_kind, unfenced}
 use Rattle.fs_app_audit.specs.Advice.{slot_of}
 use Rattle.fs_app_audit.specs.declared.asked.Purpose.{Purpose}

@@ -4,7 +4,7 @@ use Rattle.std.specs.Prelude.{ℕ, Bool, not, ◌&&◌, ◌||◌, List, map, fil
 use Rattle.fs_instr.specs.declared.instr.Instr.{Instr}
 use Rattle.fs_instr.specs.declared.instr.Instr.TheVariants.{Branch, Jump, Fence}
 use Rattle.fs_model.specs.declared.test.Test.{Test}
-pub use Rattle.fs_app_audit_text.specs.Fences.{names_devices}
+pub use Rattle.fs_app_file_text.specs.Fences.{names_devices}
 pub use Rattle.fs_model_laws.specs.InPlace.{kind_of_sides, memory_kind, is_fence, devices}
 
 -- ---- the test without those that order memory and name no devices

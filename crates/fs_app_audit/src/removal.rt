@@ -6,7 +6,7 @@ ghost use Rattle.fs_model.specs.Test.{IsBounded};
 ghost use Rattle.fs_app_audit.specs.Unfenced.{is_kept, moved, position, unfenced, unfenced_code};
 
 use crate::slices::before;
-use fs_app_audit_text::{is_fence, names_devices};
+use fs_app_file_text::{is_fence, names_devices};
 use fs_instr::Instr;
 use fs_model::{Code, Codes, Test};
 use std::alloc::{AllocError, Global};

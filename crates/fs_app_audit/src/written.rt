@@ -19,7 +19,7 @@ use crate::asked::Purpose;
 use crate::audit::status_of;
 use crate::findings::{Findings, Written, find_judged, read_shared};
 use crate::in_place::find_in_place;
-use fs_app_audit_text::{Rewritten, rewrite};
+use fs_app_file_text::{Rewritten, rewrite};
 use fs_app_io::{Output, Status};
 use fs_app_test::{Kind, Said, judge_test};
 use fs_kinds::{Fault, Placement, Prices, read_prices};

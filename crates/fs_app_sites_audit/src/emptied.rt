@@ -8,7 +8,7 @@ ghost use Rattle.fs_model_laws.specs.InPlace.{followed_code, followed_instr};
 ghost use Rattle.fs_app_sites.specs.Sites.{copy_value};
 ghost use Rattle.fs_app_sites_audit.specs.Copies.{emptied_at, is_copied};
 
-use fs_app_audit_text::is_fence;
+use fs_app_file_text::is_fence;
 use fs_app_sites::SiteCopy;
 use fs_instr::{Instr, Letters};
 use fs_kinds::Slot;

@@ -13,7 +13,7 @@ ghost use Rattle.fs_app_sites_audit.specs.Copies.{AreHeld, Holds, IsFilesFault, 
 ghost use Rattle.fs_app_sites_audit.specs.Copies.{emptied_at, line_at, written_of};
 
 use crate::emptied::emptied_at;
-use fs_app_audit_text::memory_kind;
+use fs_app_file_text::memory_kind;
 use fs_app_sites::{File, SiteCopy, read_copies};
 use fs_instr::Instr;
 use fs_kinds::{Fault, Kind, List, Slot};

@@ -9,7 +9,7 @@ ghost use Rattle.fs_model.specs.Printed.{printed};
 ghost use Rattle.fs_model.specs.Test.{IsBounded, IsTest};
 ghost use Rattle.fs_app_sites_place.specs.inner.Short.{is_short};
 
-use fs_app_solve_text::print;
+use fs_app_file_text::print;
 use fs_kinds::{Fault, Limit, MOST_INSTRUCTIONS, Placement};
 use fs_litmus::{Test, reads_back};
 use fs_model::{Code, Codes, fenced_codes};

@@ -2,7 +2,7 @@
 ghost use Rattle.fs_model.specs.Test.{IsBounded};
 
 use crate::wrong::add_wrong;
-use fs_app_audit_text::rewrite;
+use fs_app_file_text::rewrite;
 use fs_kinds::{Fault, Placement, Slot, read_fence};
 use fs_litmus::{Test, read_test};
 use std::alloc::{AllocError, Global};

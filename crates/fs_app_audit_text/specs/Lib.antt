@@ -1,3 +1,0 @@
-pub mod Kept
-pub mod Fences
-pub mod Rewritten

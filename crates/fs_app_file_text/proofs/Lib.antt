@@ -1,0 +1,4 @@
+pub mod Comparing
+pub mod Marked
+pub mod Unfenced
+pub mod Rereading

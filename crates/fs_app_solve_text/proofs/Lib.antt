@@ -1,2 +1,0 @@
-pub mod Unfenced
-pub mod Comparing

@@ -1,8 +1,0 @@
-use Rattle.fs_app_solve_text.proofs.Comparing.{only_fenced, reads_short}
-use Rattle.fs_app_solve_text.proofs.reread.inserted_reads_fenced.Goals as goal
-
-pub returns-clause-reads : goal.returns-clause-reads
-returns-clause-reads c = reads_short
-
-pub returns-clause-once : goal.returns-clause-once
-returns-clause-once c = only_fenced
