@@ -6,8 +6,8 @@ use Rattle.fs_app_io.specs.declared.status.Status.{Status}
 use Rattle.fs_app_io.specs.declared.status.Status.TheVariants.{Success, Denied, Failure}
 use Rattle.fs_app_place_order.specs.Place.{ArePricesOf, IsFencedText, IsFirstPlaceFault}
 use Rattle.fs_app_place_order.specs.Order.{IsOrderAnswer, IsFirstOrderFault}
-use Rattle.fs_app_sites_place.specs.Place.{IsSitesText, IsFirstSitesPlaceFault}
-use Rattle.fs_app_sites_place.specs.Order.{IsSitesOrderAnswer, IsFirstSitesOrderFault}
+use Rattle.fs_app_sites.specs.Place.{IsSitesText, IsFirstSitesPlaceFault}
+use Rattle.fs_app_sites.specs.Order.{IsSitesOrderAnswer, IsFirstSitesOrderFault}
 use Rattle.fs_report.specs.Objects.{AreOneAnswer}
 use Rattle.fs_app_solve.specs.Solve.{IsSolved}
 use Rattle.fs_app_file_text.specs.Inserted.{IsInserted}

@@ -38,7 +38,7 @@ use fs_app_io::{
     INPUT_LIMIT, Output, Status, has_stack, room_of, sources, tell, write_whole, write_within,
 };
 use fs_app_place_order::{run_order, run_place};
-use fs_app_sites_place::{run_order_sites, run_place_sites};
+use fs_app_sites::{run_order_sites, run_place_sites};
 use fs_app_solve::{Found, run_solve, run_solve_alone};
 use fs_app_test::{Line, test_objects, test_report, vacuous_note};
 use fs_app_why_kinds::Telling;

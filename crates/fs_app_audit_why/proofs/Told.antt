@@ -3,7 +3,7 @@ use Rattle.std.proofs.Common.{◌≡◌, ◌∙◌, ℕ, List, [], ◌∷◌, �
 use Rattle.std.proofs.lemmas.List.{append-nil}
 use Rattle.fs_kinds.specs.declared.placement.Entry.{Entry}
 use Rattle.fs_model.specs.declared.test.Test.{Test}
-use Rattle.fs_region_ends.specs.Kinds.{ChainKind}
+use Rattle.fs_app_why_kinds.specs.Kinds.{ChainKind}
 use Rattle.fs_app_why_kinds.specs.declared.told.Telling.{Telling}
 use Rattle.fs_app_why.specs.Why.{asked}
 use Rattle.fs_app_audit_why.specs.Why.{TellsPlace, TellsPlaces}

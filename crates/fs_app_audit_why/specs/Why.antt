@@ -16,8 +16,8 @@ use Rattle.fs_board_offers.specs.Offers.{IsCheapest}
 use Rattle.fs_cert_evidence.specs.CandidateFaults.{IsCandidateFault}
 use Rattle.fs_litmus.specs.Lines.{StandIn}
 use Rattle.fs_litmus.specs.Reads.{Reads}
-use Rattle.fs_region_ends.specs.declared.fences.Fence.TheVariants.{Written}
-use Rattle.fs_region_ends.specs.Kinds.{ChainKind}
+use Rattle.fs_app_why_kinds.specs.declared.fences.Fence.TheVariants.{Written}
+use Rattle.fs_app_why_kinds.specs.Kinds.{ChainKind}
 use Rattle.fs_app_place_order.specs.Place.{ArePricesOf}
 use Rattle.fs_app_test.specs.declared.said.Kind.{Kind}
 use Rattle.fs_app_test.specs.declared.said.Kind.TheVariants.{Allowed, Faulty, Forbidden, Vacuous}

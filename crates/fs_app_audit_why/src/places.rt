@@ -7,7 +7,7 @@ ghost use Rattle.fs_kinds.specs.PriceTable.{PriceTable};
 ghost use Rattle.fs_model.specs.Allows.{Allows, no_fences};
 ghost use Rattle.fs_litmus.specs.Faults.{IsTestFault};
 ghost use Rattle.fs_litmus.specs.Reads.{Reads};
-ghost use Rattle.fs_region_ends.specs.declared.fences.Fence.TheVariants.{Written};
+ghost use Rattle.fs_app_why_kinds.specs.declared.fences.Fence.TheVariants.{Written};
 ghost use Rattle.fs_app_why_kinds.specs.Counted.{in_text};
 ghost use Rattle.fs_app_why_kinds.specs.Told.{fence_key};
 ghost use Rattle.fs_app_audit_why.specs.Advised.{as_advised};
@@ -18,9 +18,8 @@ use crate::advised::read_advised;
 use crate::executions::some_text;
 use crate::page::Page;
 use fs_app_why::{asked, no_fences, place_text};
-use fs_app_why_kinds::{Telling, fence_key, in_text};
+use fs_app_why_kinds::{ChainKind, Fence, Telling, fence_key, in_text};
 use fs_kinds::{Entry, Fault, Kind, OperationName, Placement, Slot};
-use fs_region_ends::{ChainKind, Fence};
 use std::alloc::{AllocError, Global};
 
 /// In which of the kinds the fence in this place is needed.

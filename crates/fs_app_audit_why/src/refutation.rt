@@ -12,12 +12,11 @@ ghost use Rattle.fs_app_why.specs.Forbidden.{AreKinds, cycles_text};
 ghost use Rattle.fs_app_why.specs.Why.{TellsForbidden};
 
 use fs_app_why::{contradictions_text, inferred_kinds, verdict_on};
-use fs_app_why_kinds::Telling;
+use fs_app_why_kinds::{ChainKind, Telling};
 use fs_cert_evidence::Cycles;
 use fs_judge::Verdict;
 use fs_kinds::{Fault, List, Placement};
 use fs_litmus::Test;
-use fs_region_ends::ChainKind;
 use std::alloc::{AllocError, Global};
 use std::sync::Arc;
 

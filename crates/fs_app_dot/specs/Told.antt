@@ -10,7 +10,7 @@ use Rattle.fs_litmus.specs.Reads.{Reads}
 use Rattle.fs_cert_evidence.specs.Certificate.{Answer, Certificate, Cycles, Fenced, NoneForbids}
 use Rattle.fs_cert_evidence.specs.CertificateFile.{IsCertificateFile}
 use Rattle.fs_cert_evidence.specs.Valid.{Forbid}
-use Rattle.fs_region_ends.specs.Kinds.{ChainKind}
+use Rattle.fs_app_why_kinds.specs.Kinds.{ChainKind}
 use Rattle.fs_app_why.specs.Forbidden.{AreKinds}
 use Rattle.fs_app_why.specs.Why.{lacks_placed}
 use Rattle.fs_app_why_kinds.specs.declared.told.Telling.{Telling}

@@ -26,12 +26,11 @@ use crate::picture::{Page, Picture};
 use crate::possible::none_pictures;
 use crate::without::fence_pictures;
 use fs_app_why::{inferred_kinds, lines_of};
-use fs_app_why_kinds::Telling;
+use fs_app_why_kinds::{ChainKind, Telling};
 use fs_cert_evidence::WitnessFile;
 use fs_cert_json::{Certificate, CertifiedAnswer, CertifiedCycles};
 use fs_kinds::{Fault, Placement, Slot};
 use fs_litmus::{Test, read_fences, read_test};
-use fs_region_ends::ChainKind;
 use std::alloc::Global;
 use std::sync::Arc;
 

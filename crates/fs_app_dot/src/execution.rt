@@ -5,6 +5,7 @@ ghost use Rattle.std.specs.Prelude.{◌<◌, ◌≤◌};
 
 use crate::chain::{cause_label, fence_label, ink_of, named};
 use crate::graph::{Edge, Ink};
+use fs_app_why_kinds::{Fence, fence_orders};
 use fs_cand_witness::{Rows, operation_name};
 use fs_cert_evidence::Cause;
 use fs_check::OrderedCandidate;
@@ -12,7 +13,6 @@ use fs_hart::steps_of;
 use fs_kinds::{Classes, OperationName, Placement, Slot};
 use fs_model::{Name, Operation, Test};
 use fs_ppo::is_edge;
-use fs_region_ends::{Fence, fence_orders};
 use std::alloc::{AllocError, Global};
 
 /// As many operations as a relation has room for.

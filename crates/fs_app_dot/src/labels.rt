@@ -1,10 +1,10 @@
 //! What a box says of its operation.
 
 use crate::nodes::line_of;
+use fs_app_why_kinds::Known;
 use fs_instr::{Instr, write_instr};
 use fs_kinds::{List, OperationName};
 use fs_model::Location;
-use fs_region_ends::Known;
 use std::alloc::{AllocError, Global};
 
 /// The location whose address the word is.

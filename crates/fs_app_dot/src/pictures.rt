@@ -11,11 +11,11 @@ use crate::execution::execution_edges;
 use crate::graph::Node;
 use crate::labels::{write_does, write_head};
 use crate::nodes::{Shown, nodes};
+use fs_app_why_kinds::{ChainLink, Known};
 use fs_cand_witness::operation_name;
 use fs_check::OrderedCandidate;
 use fs_kinds::{List, Placement};
 use fs_model::{Name, Operation, Test};
-use fs_region_ends::{ChainLink, Known};
 use std::alloc::{AllocError, Global};
 
 /// Appends the operation of the link, with what it does as far as that is known.

@@ -27,7 +27,7 @@ use Rattle.fs_app_io.specs.declared.status.Status.{Status}
 use Rattle.fs_app_io.specs.declared.status.Status.TheVariants.{Denied, Success}
 use Rattle.fs_app_check.specs.Check.{IsChecked, yes_line}
 use Rattle.fs_app_solve.specs.Solve.{IsCertified, PrintsPlaced}
-use Rattle.fs_region_ends.specs.Kinds.{ChainKind}
+use Rattle.fs_app_why_kinds.specs.Kinds.{ChainKind}
 use Rattle.fs_app_why.specs.Forbidden.{cycles_text}
 use Rattle.fs_app_why_kinds.specs.declared.told.Telling.{Telling}
 use Rattle.fs_app_why_kinds.specs.declared.told.Telling.TheVariants.{Few, All, One}

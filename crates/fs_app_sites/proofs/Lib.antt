@@ -7,3 +7,7 @@ pub mod Offered
 pub mod Questions
 pub mod Reading
 pub mod Values
+pub mod PlaceFaults
+pub mod Short
+pub mod SiteWords
+pub mod Sites

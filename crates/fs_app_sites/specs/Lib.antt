@@ -3,3 +3,7 @@ pub mod Sites
 pub mod Asked
 pub mod Printed
 pub mod Solved
+pub mod Sited
+pub mod Place
+pub mod Order
+pub mod inner

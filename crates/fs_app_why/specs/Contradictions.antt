@@ -11,14 +11,14 @@ use Rattle.fs_model.specs.declared.test.Test.{Test}
 use Rattle.fs_model.specs.Forms.{is_loading, is_storing}
 use Rattle.fs_model.specs.Numbers.{numbers_below}
 use Rattle.fs_model.specs.Printed.{value_text}
-use Rattle.fs_region_ends.specs.declared.chain.Arrow.{Arrow}
-use Rattle.fs_region_ends.specs.declared.chain.Arrow.TheVariants.{End}
-use Rattle.fs_region_ends.specs.declared.chain.Chain.{Chain}
-use Rattle.fs_region_ends.specs.declared.chain.ChainLink.{ChainLink}
-use Rattle.fs_region_ends.specs.declared.chain.Shape.{Shape}
-use Rattle.fs_region_ends.specs.declared.chain.Shape.TheVariants as shape
-use Rattle.fs_region_ends.specs.declared.known.Known.{Known}
-use Rattle.fs_region_ends.specs.Kinds.{ChainKind, told_links}
+use Rattle.fs_app_why_kinds.specs.declared.chain.Arrow.{Arrow}
+use Rattle.fs_app_why_kinds.specs.declared.chain.Arrow.TheVariants.{End}
+use Rattle.fs_app_why_kinds.specs.declared.chain.Chain.{Chain}
+use Rattle.fs_app_why_kinds.specs.declared.chain.ChainLink.{ChainLink}
+use Rattle.fs_app_why_kinds.specs.declared.chain.Shape.{Shape}
+use Rattle.fs_app_why_kinds.specs.declared.chain.Shape.TheVariants as shape
+use Rattle.fs_app_why_kinds.specs.declared.known.Known.{Known}
+use Rattle.fs_app_why_kinds.specs.Kinds.{ChainKind, told_links}
 use Rattle.fs_app_why_kinds.specs.Arrows.{arrow_text}
 use Rattle.fs_app_why_kinds.specs.Counted.{rest_text}
 use Rattle.fs_app_why_kinds.specs.declared.told.Telling.{Telling}

@@ -6,9 +6,9 @@ use Rattle.fs_model.specs.declared.step.Step.{Step}
 use Rattle.fs_model.specs.declared.test.Test.{Test}
 use Rattle.fs_cert_evidence.specs.Certificate.{Cycles, Inferred, Listed}
 use Rattle.fs_cert_evidence.specs.Trees.{AreItsRuns, roots}
-use Rattle.fs_region_ends.specs.Chains.{chains_of}
-use Rattle.fs_region_ends.specs.Ends.{ends}
-use Rattle.fs_region_ends.specs.Kinds.{ChainKind, kinds_of}
+use Rattle.fs_app_why_kinds.specs.Chains.{chains_of}
+use Rattle.fs_app_why_kinds.specs.Ends.{ends}
+use Rattle.fs_app_why_kinds.specs.Kinds.{ChainKind, kinds_of}
 use Rattle.fs_app_why_kinds.specs.declared.told.Telling.{Telling}
 use Rattle.fs_app_why.specs.Contradictions.{contradictions_text}
 

@@ -29,9 +29,9 @@ use Rattle.fs_cert_evidence.specs.CertificateFile.{IsCertificateFile}
 use Rattle.fs_cert_evidence.specs.Shown.{ShowsAs, IsShownBy}
 use Rattle.fs_cert_evidence.specs.Valid.{Forbid}
 use Rattle.fs_cert_evidence.specs.WitnessFile.{IsWitnessFile}
-use Rattle.fs_region_ends.specs.declared.fences.Fence.TheVariants.{Placed}
-use Rattle.fs_region_ends.specs.Fences.{is_fence}
-use Rattle.fs_region_ends.specs.Kinds.{ChainKind}
+use Rattle.fs_app_why_kinds.specs.declared.fences.Fence.TheVariants.{Placed}
+use Rattle.fs_app_why_kinds.specs.Fences.{is_fence}
+use Rattle.fs_app_why_kinds.specs.Kinds.{ChainKind}
 use Rattle.fs_app_place_order.specs.Place.{IsBadFences}
 use Rattle.fs_app_why_kinds.specs.declared.told.Telling.{Telling}
 use Rattle.fs_app_why_kinds.specs.declared.told.Telling.TheVariants.{One}

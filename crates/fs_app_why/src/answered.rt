@@ -25,12 +25,11 @@ use crate::forbidden::{cycles_text, kinds_by};
 use crate::order::lines_of;
 use crate::possible::why_none;
 use crate::without::fences_text;
-use fs_app_why_kinds::Telling;
+use fs_app_why_kinds::{ChainKind, Telling};
 use fs_cert_evidence::WitnessFile;
 use fs_cert_json::{Certificate, CertifiedAnswer};
 use fs_kinds::{Fault, List, OperationName, Placement, Slot};
 use fs_litmus::{Test, read_fences, read_test};
-use fs_region_ends::ChainKind;
 use std::alloc::{AllocError, Global};
 use std::sync::Arc;
 

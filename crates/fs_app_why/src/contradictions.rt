@@ -17,12 +17,12 @@ use crate::table::{Row, table_text};
 use crate::words::{loads, stores, word_text};
 use fs_app_test::value_text;
 use fs_app_why_kinds::{
-    Telling, arrow_text, instr_named, instr_text, is_told, rest_text, told_place,
+    Arrow, Chain, ChainKind, ChainLink, Known, Shape, Telling, arrow_text, instr_named, instr_text,
+    is_told, rest_text, told_links, told_place,
 };
 use fs_instr::Instr;
 use fs_kinds::List;
 use fs_model::{Location, Name, Test};
-use fs_region_ends::{Arrow, Chain, ChainKind, ChainLink, Known, Shape, told_links};
 use std::alloc::{AllocError, Global};
 
 // ---- what an operation does, as far as all runs that are left agree

@@ -12,7 +12,7 @@ ghost use Rattle.fs_cert_evidence.specs.Certificate.{Inferred};
 ghost use Rattle.fs_cert_evidence.specs.Inferences.{cycles_of, inference_of};
 ghost use Rattle.fs_cert_evidence.specs.Valid.{Forbid};
 ghost use Rattle.fs_judge.specs.Verdicts.{IsVerdict};
-ghost use Rattle.fs_region_ends.specs.Kinds.{ChainKind as Kinds};
+ghost use Rattle.fs_app_why_kinds.specs.Kinds.{ChainKind as Kinds};
 ghost use Rattle.fs_app_why.specs.Contradictions.{contradictions_text};
 ghost use Rattle.fs_app_why.specs.Forbidden.{AreKinds};
 ghost use Rattle.fs_app_why.specs.Why.{HasCandidateFault, IsAllowed, IsForbiddenWhy, TellsForbidden, TellsUnless};
@@ -178,7 +178,7 @@ fn asked_text(
 /// shows it. Where one fence is asked for, and the instruction is no FENCE, a line says so. None where an execution
 /// shows the outcome. The test is judged once more, as `judge_test` of fs_app_test does. The faults are those of
 /// `read_test`, of `Problem::new` and of `Problem::judged`. The cost is that of these three, of `chains` and `kinds_of`
-/// of fs_region_ends, and of `contradictions_text`.
+/// of fs_app_why_kinds, and of `contradictions_text`.
 pub fn why_forbidden(alloc: Global, telling: Telling, test: &[u8]) -> Result<Option<String>, Fault>
     ensures some { IfOk result (λ found.
         IfSome found (λ text. IsForbiddenWhy telling test.now (string_bytes text))) }

@@ -7,11 +7,11 @@ ghost use Rattle.fs_app_why.specs.Signs.{lacks_by, lacks_known, lacks_word, some
 
 use crate::words::{loads, stores};
 use fs_app_why_kinds::{
-    Telling, counts_before, counts_behind, if_amo, instr_named, is_told, told_place,
+    Chain, ChainKind, ChainLink, Fence, Known, Shape, Telling, counts_before, counts_behind,
+    if_amo, instr_named, is_told, told_place,
 };
 use fs_instr::Instr;
 use fs_model::Test;
-use fs_region_ends::{Chain, ChainKind, ChainLink, Fence, Known, Shape};
 
 /// What a contradiction has that is explained.
 #[derive(Clone, Copy)]

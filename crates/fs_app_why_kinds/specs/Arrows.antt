@@ -10,11 +10,11 @@ use Rattle.fs_kinds.specs.ReasonText.{operation_name}
 use Rattle.fs_model.specs.declared.test.Test.{Test}
 use Rattle.fs_cert_evidence.specs.declared.evidence.Cause.{Cause}
 use Rattle.fs_cert_evidence.specs.declared.evidence.Cause.TheVariants.{Rule1, Rule2, Rule3, Rule4, Rule5, Rule6, Rule7, Rule8, Rule9, Rule10, Rule11, Rule12, Rule13, ReadsFrom, Coherence, FromReads}
-use Rattle.fs_region_ends.specs.declared.chain.Arrow.{Arrow}
-use Rattle.fs_region_ends.specs.declared.chain.Arrow.TheVariants.{Because, Forgotten, Pair, End}
-use Rattle.fs_region_ends.specs.declared.fences.Fence.{Fence}
-use Rattle.fs_region_ends.specs.declared.fences.Fence.TheVariants.{Placed, Written}
-use Rattle.fs_region_ends.specs.Fences.{fence_orders}
+use Rattle.fs_app_why_kinds.specs.declared.chain.Arrow.{Arrow}
+use Rattle.fs_app_why_kinds.specs.declared.chain.Arrow.TheVariants.{Because, Forgotten, Pair, End}
+use Rattle.fs_app_why_kinds.specs.declared.fences.Fence.{Fence}
+use Rattle.fs_app_why_kinds.specs.declared.fences.Fence.TheVariants.{Placed, Written}
+use Rattle.fs_app_why_kinds.specs.Fences.{fence_orders}
 use Rattle.fs_app_why_kinds.specs.Words.{instr_named, line_of, text_of_instr}
 
 -- ---- causes but for rule 4; a comes before b

@@ -4,8 +4,8 @@ use Rattle.std.specs.Prelude.{List, [], ◌∷◌, ◌++◌, length, codes, coun
 use Rattle.std.specs.Fmt.{decimal}
 use Rattle.std.specs.List.{flat_map, list_any}
 use Rattle.fs_model.specs.Numbers.{is_same, numbers_below}
-use Rattle.fs_region_ends.specs.declared.chain.Chain.{Chain}
-use Rattle.fs_region_ends.specs.Kinds.{ChainKind}
+use Rattle.fs_app_why_kinds.specs.declared.chain.Chain.{Chain}
+use Rattle.fs_app_why_kinds.specs.Kinds.{ChainKind}
 use Rattle.fs_app_why_kinds.specs.declared.told.Telling.{Telling}
 use Rattle.fs_app_why_kinds.specs.Told.{fence_key, has_fence, is_told, kind_at, told_chain}
 use Rattle.fs_app_why_kinds.specs.Words.{and_joined}

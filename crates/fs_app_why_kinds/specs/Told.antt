@@ -2,11 +2,11 @@
 use Rattle.std.specs.Prelude.{ℕ, ◌+◌, ◌*◌, ◌==◌, nat_le, nat_lt, Bool, true, false, ◌&&◌, ◌||◌, not, Option, None, Some, option_map, List, [], length, slice_get, take}
 use Rattle.std.specs.List.{list_any, slice_index_or}
 use Rattle.fs_model.specs.Numbers.{is_same}
-use Rattle.fs_region_ends.specs.declared.chain.Chain.{Chain}
-use Rattle.fs_region_ends.specs.declared.chain.ChainLink.{ChainLink}
-use Rattle.fs_region_ends.specs.declared.fences.Fence.{Fence}
-use Rattle.fs_region_ends.specs.declared.fences.Fence.TheVariants.{Placed, Written}
-use Rattle.fs_region_ends.specs.Kinds.{ChainKind, place_by}
+use Rattle.fs_app_why_kinds.specs.declared.chain.Chain.{Chain}
+use Rattle.fs_app_why_kinds.specs.declared.chain.ChainLink.{ChainLink}
+use Rattle.fs_app_why_kinds.specs.declared.fences.Fence.{Fence}
+use Rattle.fs_app_why_kinds.specs.declared.fences.Fence.TheVariants.{Placed, Written}
+use Rattle.fs_app_why_kinds.specs.Kinds.{ChainKind, place_by}
 use Rattle.fs_app_why_kinds.specs.declared.told.Telling.{Telling}
 use Rattle.fs_app_why_kinds.specs.declared.told.Telling.TheVariants.{Few, All, One}
 

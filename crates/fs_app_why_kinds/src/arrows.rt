@@ -8,11 +8,11 @@ ghost use Rattle.fs_app_why_kinds.specs.Arrows.{rule_4_text};
 ghost use Rattle.fs_app_why_kinds.specs.Words.{instr_named, text_of_instr};
 
 use crate::words::{instr_named, instr_text, line_of};
+use crate::{Arrow, Fence, fence_orders};
 use fs_cert_evidence::Cause;
 use fs_instr::Instr;
 use fs_kinds::{Classes, List, OperationName};
 use fs_model::Test;
-use fs_region_ends::{Arrow, Fence, fence_orders};
 use std::alloc::{AllocError, Global};
 
 /// Why a comes before b, but for the fence of rule 4.

@@ -10,8 +10,8 @@ ghost use Rattle.fs_app_why_kinds.specs.Told.{told_chain};
 
 use crate::told::{Telling, has_fence, is_key, is_told, told_place};
 use crate::words::and_joined;
+use crate::{Chain, ChainKind};
 use fs_model::Name;
-use fs_region_ends::{Chain, ChainKind};
 use std::alloc::{AllocError, Global};
 
 fn is_untold(telling: Telling, kinds: &[ChainKind], number: usize) -> bool

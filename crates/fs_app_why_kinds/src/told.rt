@@ -7,7 +7,7 @@ ghost use Rattle.fs_app_why_kinds.specs.Told.{fence_key, has_fence, has_key, has
 ghost use Rattle.fs_app_why_kinds.specs.Told.{is_key_among, is_new_after, is_new_by, is_there, is_told, is_told_by};
 ghost use Rattle.fs_app_why_kinds.specs.Told.{kind_at, least_chains, links_there, stands_there, told_place};
 
-use fs_region_ends::{Chain, ChainKind, ChainLink, Fence};
+use crate::{Chain, ChainKind, ChainLink, Fence};
 
 /// Which kinds of contradictions are told.
 #[derive(Clone, Copy)]

@@ -1,4 +1,0 @@
-pub mod Faults
-pub mod Short
-pub mod SiteWords
-pub mod Sites

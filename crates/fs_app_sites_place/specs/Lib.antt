@@ -1,4 +1,0 @@
-pub mod Sited
-pub mod Place
-pub mod Order
-pub mod inner
