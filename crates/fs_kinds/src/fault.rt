@@ -188,8 +188,25 @@ impl fmt::Display for Fault {
     ghost output = { λ fault. Some (fault_line fault) };
 
     fn fmt<W: fmt::Write>(&self, f: &mut fmt::Formatter<W>) -> fmt::Result {
-        write!(f, "fault F{} {}", self.number(), self.name())?;
-        match self {
+        let place = Place { of: *self };
+        write!(f, "fault F{} {}{place}", self.number(), self.name())
+    }
+}
+
+/// Where a fault is, or what is too much: the end of its line.
+#[derive(Drop)]
+struct Place {
+    of: Fault,
+}
+
+impl fmt::Display for Place {
+    ghost use Rattle.std.specs.Prelude.{Some};
+    ghost use Rattle.fs_kinds.specs.FaultLine.{place};
+
+    ghost output = { λ p. Some (place p.of) };
+
+    fn fmt<W: fmt::Write>(&self, f: &mut fmt::Formatter<W>) -> fmt::Result {
+        match self.of {
             Fault::Syntax { line }
             | Fault::UnknownInstr { line }
             | Fault::BadAnnotation { line }

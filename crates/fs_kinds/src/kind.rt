@@ -115,11 +115,17 @@ impl Kind {
     }
 
     /// The kind of this word. No other text names a kind.
-    #[tactic(auto, unfolding(crate::specs::Kind::kind_of))]
     pub fn of(text: &str) -> Option<Kind>
         ensures value { result ≡ kind_of text.now }
         ensures named { IfSome result (λ kind. text.now ≡ word kind) }
         ensures none { IfNone result ((kind : Kind) → text.now ≢ word kind) }
+    {
+        Kind::of_word(text)
+    }
+
+    #[tactic(auto, unfolding(crate::specs::Kind::kind_of))]
+    fn of_word(text: &str) -> Option<Kind>
+        ensures { result ≡ kind_of text.now }
     {
         kinds!(of text)
     }
