@@ -124,35 +124,35 @@ macro_rules! table {
         $column! {
             ($($subject)*) { rd, first, second, imm, constant, target, before, after }
             {
-                (Op::Register(op)) [Rd, Sign(Comma), First, Sign(Comma), Second] { rd, first, second, ..Operands::BLANK }
+                (Op::Register(op)) [Rd, Sign(Comma), First, Sign(Comma), Second] { rd, first, second }
                     (Instr::Register { op, rd, first, second }) { dest: rd.named(), sources: [first.named(), second.named()], address: None, data: None, carries: true };
-                (Op::Immediate(op)) [Rd, Sign(Comma), First, Sign(Comma), Immediate] { rd, first, imm, ..Operands::BLANK }
+                (Op::Immediate(op)) [Rd, Sign(Comma), First, Sign(Comma), Immediate] { rd, first, imm }
                     (Instr::Immediate { op, rd, first, imm }) { dest: rd.named(), sources: [first.named(), None], address: None, data: None, carries: true };
-                (Op::Shift(op)) [Rd, Sign(Comma), First, Sign(Comma), Below(32)] { rd, first, constant, ..Operands::BLANK }
+                (Op::Shift(op)) [Rd, Sign(Comma), First, Sign(Comma), Below(32)] { rd, first, constant }
                     (Instr::Shift { op, rd, first, amount: constant }) { dest: rd.named(), sources: [first.named(), None], address: None, data: None, carries: true };
-                (Op::Lui) [Rd, Sign(Comma), Below(1048576)] { rd, constant, ..Operands::BLANK }
+                (Op::Lui) [Rd, Sign(Comma), Below(1048576)] { rd, constant }
                     (Instr::Lui { rd, upper: constant }) { dest: rd.named(), sources: [None, None], address: None, data: None, carries: false };
-                (Op::Li) [Rd, Sign(Comma), Constant] { rd, constant, ..Operands::BLANK }
+                (Op::Li) [Rd, Sign(Comma), Constant] { rd, constant }
                     (Instr::Li { rd, word: constant }) { dest: rd.named(), sources: [None, None], address: None, data: None, carries: false };
-                (Op::Lw) [Rd, Sign(Comma), Offset, Sign(OpenParen), First, Sign(CloseParen)] { rd, first, imm, ..Operands::BLANK }
+                (Op::Lw) [Rd, Sign(Comma), Offset, Sign(OpenParen), First, Sign(CloseParen)] { rd, first, imm }
                     (Instr::Lw { rd, base: first, offset: imm }) { dest: rd.named(), sources: [first.named(), None], address: first.named(), data: None, carries: false };
-                (Op::Sw) [Second, Sign(Comma), Offset, Sign(OpenParen), First, Sign(CloseParen)] { second, first, imm, ..Operands::BLANK }
+                (Op::Sw) [Second, Sign(Comma), Offset, Sign(OpenParen), First, Sign(CloseParen)] { second, first, imm }
                     (Instr::Sw { value: second, base: first, offset: imm }) { dest: None, sources: [first.named(), second.named()], address: first.named(), data: second.named(), carries: false };
-                (Op::Lr(ann)) [Rd, Sign(Comma), NoOffset, Sign(OpenParen), First, Sign(CloseParen)] { rd, first, ..Operands::BLANK }
+                (Op::Lr(ann)) [Rd, Sign(Comma), NoOffset, Sign(OpenParen), First, Sign(CloseParen)] { rd, first }
                     (Instr::Lr { ann, rd, base: first }) { dest: rd.named(), sources: [first.named(), None], address: first.named(), data: None, carries: false };
-                (Op::Sc(ann)) [Rd, Sign(Comma), Second, Sign(Comma), NoOffset, Sign(OpenParen), First, Sign(CloseParen)] { rd, second, first, ..Operands::BLANK }
+                (Op::Sc(ann)) [Rd, Sign(Comma), Second, Sign(Comma), NoOffset, Sign(OpenParen), First, Sign(CloseParen)] { rd, second, first }
                     (Instr::Sc { ann, rd, value: second, base: first }) { dest: rd.named(), sources: [first.named(), second.named()], address: first.named(), data: second.named(), carries: false };
-                (Op::Amo(op, ann)) [Rd, Sign(Comma), Second, Sign(Comma), NoOffset, Sign(OpenParen), First, Sign(CloseParen)] { rd, second, first, ..Operands::BLANK }
+                (Op::Amo(op, ann)) [Rd, Sign(Comma), Second, Sign(Comma), NoOffset, Sign(OpenParen), First, Sign(CloseParen)] { rd, second, first }
                     (Instr::Amo { op, ann, rd, value: second, base: first }) { dest: rd.named(), sources: [first.named(), second.named()], address: first.named(), data: second.named(), carries: false };
-                (Op::Branch(op)) [First, Sign(Comma), Second, Sign(Comma), Label] { first, second, target, ..Operands::BLANK }
+                (Op::Branch(op)) [First, Sign(Comma), Second, Sign(Comma), Label] { first, second, target }
                     (Instr::Branch { op, first, second, target }) { dest: None, sources: [first.named(), second.named()], address: None, data: None, carries: false };
-                (Op::Jal) [Zero, Sign(Comma), Label] { target, ..Operands::BLANK }
+                (Op::Jal) [Zero, Sign(Comma), Label] { target }
                     (Instr::Jump { target }) { dest: None, sources: [None, None], address: None, data: None, carries: false };
-                (Op::Fence) [Before, Sign(Comma), After] { before, after, ..Operands::BLANK }
+                (Op::Fence) [Before, Sign(Comma), After] { before, after }
                     (Instr::Fence { before, after }) { dest: None, sources: [None, None], address: None, data: None, carries: false };
-                (Op::FenceTso) [] { ..Operands::BLANK }
+                (Op::FenceTso) [] {}
                     (Instr::FenceTso) { dest: None, sources: [None, None], address: None, data: None, carries: false };
-                (Op::FenceI) [] { ..Operands::BLANK }
+                (Op::FenceI) [] {}
                     (Instr::FenceI) { dest: None, sources: [None, None], address: None, data: None, carries: false };
             }
             {
@@ -207,12 +207,14 @@ macro_rules! names {
 
 macro_rules! operands {
     (($self:ident) $fields:tt
-        { $($name:tt [$($part:expr),*] $filled:tt $instr:tt $roles:tt;)* }
-        { $($short:tt [$($short_part:expr),*] $meaning:tt;)* }) => {
+        { $($name:tt [$($part:expr),*] { $($filled:ident),* } $instr:tt $roles:tt;)* }
+        { $($short:tt [$($short_part:expr),*] $meaning:tt;)* }) => {{
+        let mut operands = Operands::BLANK;
         match $self {
-            $($instr => Operands $filled,)*
+            $($instr => { $(operands.$filled = $filled;)* })*
         }
-    };
+        operands
+    }};
 }
 
 macro_rules! roles {

@@ -215,78 +215,78 @@ macro_rules! names {
         }
     };
     (plain_of $use:ident $($arguments:tt)*) => {
-        $use! { [$($arguments)*]
-            "lr.w" => Op::Lr(Ann { acquire: false, release: false }),
-            "sc.w" => Op::Sc(Ann { acquire: false, release: false }),
-            "amoswap.w" => Op::Amo(AmoOp::Swap, Ann { acquire: false, release: false }),
-            "amoadd.w" => Op::Amo(AmoOp::Add, Ann { acquire: false, release: false }),
-            "amoxor.w" => Op::Amo(AmoOp::Xor, Ann { acquire: false, release: false }),
-            "amoand.w" => Op::Amo(AmoOp::And, Ann { acquire: false, release: false }),
-            "amoor.w" => Op::Amo(AmoOp::Or, Ann { acquire: false, release: false }),
-            "amomin.w" => Op::Amo(AmoOp::Min, Ann { acquire: false, release: false }),
-            "amomax.w" => Op::Amo(AmoOp::Max, Ann { acquire: false, release: false }),
-            "amominu.w" => Op::Amo(AmoOp::Minu, Ann { acquire: false, release: false }),
-            "amomaxu.w" => Op::Amo(AmoOp::Maxu, Ann { acquire: false, release: false }),
+        $use! { [$($arguments)*] (Ann { acquire: false, release: false })
+            "lr.w" => Lr(),
+            "sc.w" => Sc(),
+            "amoswap.w" => Amo(AmoOp::Swap),
+            "amoadd.w" => Amo(AmoOp::Add),
+            "amoxor.w" => Amo(AmoOp::Xor),
+            "amoand.w" => Amo(AmoOp::And),
+            "amoor.w" => Amo(AmoOp::Or),
+            "amomin.w" => Amo(AmoOp::Min),
+            "amomax.w" => Amo(AmoOp::Max),
+            "amominu.w" => Amo(AmoOp::Minu),
+            "amomaxu.w" => Amo(AmoOp::Maxu),
         }
     };
     (acquiring_of $use:ident $($arguments:tt)*) => {
-        $use! { [$($arguments)*]
-            "lr.w.aq" => Op::Lr(Ann { acquire: true, release: false }),
-            "sc.w.aq" => Op::Sc(Ann { acquire: true, release: false }),
-            "amoswap.w.aq" => Op::Amo(AmoOp::Swap, Ann { acquire: true, release: false }),
-            "amoadd.w.aq" => Op::Amo(AmoOp::Add, Ann { acquire: true, release: false }),
-            "amoxor.w.aq" => Op::Amo(AmoOp::Xor, Ann { acquire: true, release: false }),
-            "amoand.w.aq" => Op::Amo(AmoOp::And, Ann { acquire: true, release: false }),
-            "amoor.w.aq" => Op::Amo(AmoOp::Or, Ann { acquire: true, release: false }),
-            "amomin.w.aq" => Op::Amo(AmoOp::Min, Ann { acquire: true, release: false }),
-            "amomax.w.aq" => Op::Amo(AmoOp::Max, Ann { acquire: true, release: false }),
-            "amominu.w.aq" => Op::Amo(AmoOp::Minu, Ann { acquire: true, release: false }),
-            "amomaxu.w.aq" => Op::Amo(AmoOp::Maxu, Ann { acquire: true, release: false }),
+        $use! { [$($arguments)*] (Ann { acquire: true, release: false })
+            "lr.w.aq" => Lr(),
+            "sc.w.aq" => Sc(),
+            "amoswap.w.aq" => Amo(AmoOp::Swap),
+            "amoadd.w.aq" => Amo(AmoOp::Add),
+            "amoxor.w.aq" => Amo(AmoOp::Xor),
+            "amoand.w.aq" => Amo(AmoOp::And),
+            "amoor.w.aq" => Amo(AmoOp::Or),
+            "amomin.w.aq" => Amo(AmoOp::Min),
+            "amomax.w.aq" => Amo(AmoOp::Max),
+            "amominu.w.aq" => Amo(AmoOp::Minu),
+            "amomaxu.w.aq" => Amo(AmoOp::Maxu),
         }
     };
     (releasing_of $use:ident $($arguments:tt)*) => {
-        $use! { [$($arguments)*]
-            "lr.w.rl" => Op::Lr(Ann { acquire: false, release: true }),
-            "sc.w.rl" => Op::Sc(Ann { acquire: false, release: true }),
-            "amoswap.w.rl" => Op::Amo(AmoOp::Swap, Ann { acquire: false, release: true }),
-            "amoadd.w.rl" => Op::Amo(AmoOp::Add, Ann { acquire: false, release: true }),
-            "amoxor.w.rl" => Op::Amo(AmoOp::Xor, Ann { acquire: false, release: true }),
-            "amoand.w.rl" => Op::Amo(AmoOp::And, Ann { acquire: false, release: true }),
-            "amoor.w.rl" => Op::Amo(AmoOp::Or, Ann { acquire: false, release: true }),
-            "amomin.w.rl" => Op::Amo(AmoOp::Min, Ann { acquire: false, release: true }),
-            "amomax.w.rl" => Op::Amo(AmoOp::Max, Ann { acquire: false, release: true }),
-            "amominu.w.rl" => Op::Amo(AmoOp::Minu, Ann { acquire: false, release: true }),
-            "amomaxu.w.rl" => Op::Amo(AmoOp::Maxu, Ann { acquire: false, release: true }),
+        $use! { [$($arguments)*] (Ann { acquire: false, release: true })
+            "lr.w.rl" => Lr(),
+            "sc.w.rl" => Sc(),
+            "amoswap.w.rl" => Amo(AmoOp::Swap),
+            "amoadd.w.rl" => Amo(AmoOp::Add),
+            "amoxor.w.rl" => Amo(AmoOp::Xor),
+            "amoand.w.rl" => Amo(AmoOp::And),
+            "amoor.w.rl" => Amo(AmoOp::Or),
+            "amomin.w.rl" => Amo(AmoOp::Min),
+            "amomax.w.rl" => Amo(AmoOp::Max),
+            "amominu.w.rl" => Amo(AmoOp::Minu),
+            "amomaxu.w.rl" => Amo(AmoOp::Maxu),
         }
     };
     (both_of $use:ident $($arguments:tt)*) => {
-        $use! { [$($arguments)*]
-            "lr.w.aqrl" => Op::Lr(Ann { acquire: true, release: true }),
-            "sc.w.aqrl" => Op::Sc(Ann { acquire: true, release: true }),
-            "amoswap.w.aqrl" => Op::Amo(AmoOp::Swap, Ann { acquire: true, release: true }),
-            "amoadd.w.aqrl" => Op::Amo(AmoOp::Add, Ann { acquire: true, release: true }),
-            "amoxor.w.aqrl" => Op::Amo(AmoOp::Xor, Ann { acquire: true, release: true }),
-            "amoand.w.aqrl" => Op::Amo(AmoOp::And, Ann { acquire: true, release: true }),
-            "amoor.w.aqrl" => Op::Amo(AmoOp::Or, Ann { acquire: true, release: true }),
-            "amomin.w.aqrl" => Op::Amo(AmoOp::Min, Ann { acquire: true, release: true }),
-            "amomax.w.aqrl" => Op::Amo(AmoOp::Max, Ann { acquire: true, release: true }),
-            "amominu.w.aqrl" => Op::Amo(AmoOp::Minu, Ann { acquire: true, release: true }),
-            "amomaxu.w.aqrl" => Op::Amo(AmoOp::Maxu, Ann { acquire: true, release: true }),
+        $use! { [$($arguments)*] (Ann { acquire: true, release: true })
+            "lr.w.aqrl" => Lr(),
+            "sc.w.aqrl" => Sc(),
+            "amoswap.w.aqrl" => Amo(AmoOp::Swap),
+            "amoadd.w.aqrl" => Amo(AmoOp::Add),
+            "amoxor.w.aqrl" => Amo(AmoOp::Xor),
+            "amoand.w.aqrl" => Amo(AmoOp::And),
+            "amoor.w.aqrl" => Amo(AmoOp::Or),
+            "amomin.w.aqrl" => Amo(AmoOp::Min),
+            "amomax.w.aqrl" => Amo(AmoOp::Max),
+            "amominu.w.aqrl" => Amo(AmoOp::Minu),
+            "amomaxu.w.aqrl" => Amo(AmoOp::Maxu),
         }
     };
     (both_apart_of $use:ident $($arguments:tt)*) => {
-        $use! { [$($arguments)*]
-            "lr.w.aq.rl" => Op::Lr(Ann { acquire: true, release: true }),
-            "sc.w.aq.rl" => Op::Sc(Ann { acquire: true, release: true }),
-            "amoswap.w.aq.rl" => Op::Amo(AmoOp::Swap, Ann { acquire: true, release: true }),
-            "amoadd.w.aq.rl" => Op::Amo(AmoOp::Add, Ann { acquire: true, release: true }),
-            "amoxor.w.aq.rl" => Op::Amo(AmoOp::Xor, Ann { acquire: true, release: true }),
-            "amoand.w.aq.rl" => Op::Amo(AmoOp::And, Ann { acquire: true, release: true }),
-            "amoor.w.aq.rl" => Op::Amo(AmoOp::Or, Ann { acquire: true, release: true }),
-            "amomin.w.aq.rl" => Op::Amo(AmoOp::Min, Ann { acquire: true, release: true }),
-            "amomax.w.aq.rl" => Op::Amo(AmoOp::Max, Ann { acquire: true, release: true }),
-            "amominu.w.aq.rl" => Op::Amo(AmoOp::Minu, Ann { acquire: true, release: true }),
-            "amomaxu.w.aq.rl" => Op::Amo(AmoOp::Maxu, Ann { acquire: true, release: true }),
+        $use! { [$($arguments)*] (Ann { acquire: true, release: true })
+            "lr.w.aq.rl" => Lr(),
+            "sc.w.aq.rl" => Sc(),
+            "amoswap.w.aq.rl" => Amo(AmoOp::Swap),
+            "amoadd.w.aq.rl" => Amo(AmoOp::Add),
+            "amoxor.w.aq.rl" => Amo(AmoOp::Xor),
+            "amoand.w.aq.rl" => Amo(AmoOp::And),
+            "amoor.w.aq.rl" => Amo(AmoOp::Or),
+            "amomin.w.aq.rl" => Amo(AmoOp::Min),
+            "amomax.w.aq.rl" => Amo(AmoOp::Max),
+            "amominu.w.aq.rl" => Amo(AmoOp::Minu),
+            "amomaxu.w.aq.rl" => Amo(AmoOp::Maxu),
         }
     };
 }
@@ -294,6 +294,9 @@ macro_rules! names {
 macro_rules! find {
     ([$word:ident] $($text:literal => $op:expr,)*) => {
         look_up(&[$(($text, $op)),*], $word)
+    };
+    ([$word:ident] ($ann:expr) $($text:literal => $access:ident($($op:path)?),)*) => {
+        look_up(&[$(($text, Op::$access($($op,)? $ann))),*], $word)
     };
 }
 
@@ -408,9 +411,9 @@ macro_rules! text {
 }
 
 macro_rules! only_text {
-    ([$op:ident] $($text:literal => $row:pat,)*) => {
+    ([$op:ident] ($ann:expr) $($text:literal => $access:ident($($row:path)?),)*) => {
         match $op {
-            $($row => $text,)*
+            $(Op::$access($($row,)? _) => $text,)*
             _ => unreachable!(),
         }
     };

@@ -4,9 +4,9 @@ ghost use Rattle.std.specs.Prelude.{◌≡◌, option_map};
 ghost use Rattle.fs_instr.specs.declared.operands.Operands.{Operands};
 ghost use Rattle.fs_instr.specs.declared.operands.OperandPart.TheVariants.{Zero, Immediate, Offset, Below, Constant};
 ghost use Rattle.fs_instr.specs.declared.operands.OperandPart.TheVariants.{NoOffset};
-ghost use Rattle.fs_instr.specs.Operands.{filled, toks, take_word, take_name, is_mark, take_sign, take_letters};
-ghost use Rattle.fs_instr.specs.Operands.{take_unsigned, take_number, immediate_of, below_of, constant_of, read_part};
-ghost use Rattle.fs_instr.specs.Operands.{read_parts, blank};
+ghost use Rattle.fs_instr.specs.Operands.{filled, toks, take_word, take_name, is_mark, take_sign, take_register};
+ghost use Rattle.fs_instr.specs.Operands.{take_letters, take_unsigned, take_number, immediate_of, below_of, constant_of};
+ghost use Rattle.fs_instr.specs.Operands.{read_part, read_parts, blank};
 
 use crate::letters::Letters;
 use crate::reg::Reg;
@@ -127,13 +127,22 @@ fn take_sign<'b, 'a>(mark: Mark, tokens: &'b [Token<'a>]) -> Option<&'b [Token<'
     }
 }
 
-#[tactic(auto, unfolding(crate::specs::Operands::take_letters))]
-fn take_letters<'b, 'a>(tokens: &'b [Token<'a>]) -> Option<(Letters, &'b [Token<'a>])>
-    ensures { option_map (λ x. (x.0, toks x.1.now)) result ≡ take_letters (toks tokens.now) }
+#[tactic(auto, unfolding(crate::specs::Operands::take_register))]
+fn read_register<'b, 'a>(register: &mut Reg, tokens: &'b [Token<'a>]) -> Option<&'b [Token<'a>]>
+    ensures { option_map (λ rest. (register.new, toks rest.now)) result ≡ take_register (toks tokens.now) }
 {
     let (word, rest) = take_word(tokens)?;
-    let letters = Letters::of(word)?;
-    Some((letters, rest))
+    *register = Reg::of(word)?;
+    Some(rest)
+}
+
+#[tactic(auto, unfolding(crate::specs::Operands::take_letters))]
+fn read_letters<'b, 'a>(letters: &mut Letters, tokens: &'b [Token<'a>]) -> Option<&'b [Token<'a>]>
+    ensures { option_map (λ rest. (letters.new, toks rest.now)) result ≡ take_letters (toks tokens.now) }
+{
+    let (word, rest) = take_word(tokens)?;
+    *letters = Letters::of(word)?;
+    Some(rest)
 }
 
 #[tactic(auto, unfolding(crate::specs::Operands::take_unsigned))]
@@ -295,7 +304,6 @@ fn read_no_offset<'b, 'a>(
     }
 }
 
-#[tactic(auto, unfolding(crate::specs::Operands::take_register))]
 fn read_part<'b, 'a>(
     part: OperandPart,
     operands: &mut Operands,
@@ -307,18 +315,15 @@ fn read_part<'b, 'a>(
 {
     match part {
         OperandPart::Rd => {
-            let (word, rest) = take_word(tokens)?;
-            operands.rd = Reg::of(word)?;
+            let rest = read_register(&mut operands.rd, tokens)?;
             Some((label, rest))
         }
         OperandPart::First => {
-            let (word, rest) = take_word(tokens)?;
-            operands.first = Reg::of(word)?;
+            let rest = read_register(&mut operands.first, tokens)?;
             Some((label, rest))
         }
         OperandPart::Second => {
-            let (word, rest) = take_word(tokens)?;
-            operands.second = Reg::of(word)?;
+            let rest = read_register(&mut operands.second, tokens)?;
             Some((label, rest))
         }
         OperandPart::Zero => read_zero(operands, label, tokens),
@@ -336,13 +341,11 @@ fn read_part<'b, 'a>(
             Some((Some(word), rest))
         }
         OperandPart::Before => {
-            let (letters, rest) = take_letters(tokens)?;
-            operands.before = letters;
+            let rest = read_letters(&mut operands.before, tokens)?;
             Some((label, rest))
         }
         OperandPart::After => {
-            let (letters, rest) = take_letters(tokens)?;
-            operands.after = letters;
+            let rest = read_letters(&mut operands.after, tokens)?;
             Some((label, rest))
         }
     }

@@ -47,119 +47,131 @@ fn look_up(rows: &[(&str, u8)], word: &str) -> Option<Reg>
 fn low_x(word: &str) -> Option<Reg>
     ensures { result ≡ look_up low_x word.now }
 {
-    let rows = [
-        ("x0", 0),
-        ("x1", 1),
-        ("x2", 2),
-        ("x3", 3),
-        ("x4", 4),
-        ("x5", 5),
-        ("x6", 6),
-        ("x7", 7),
-        ("x8", 8),
-        ("x9", 9),
-        ("x10", 10),
-    ];
-    look_up(&rows, word)
+    look_up(
+        &[
+            ("x0", 0),
+            ("x1", 1),
+            ("x2", 2),
+            ("x3", 3),
+            ("x4", 4),
+            ("x5", 5),
+            ("x6", 6),
+            ("x7", 7),
+            ("x8", 8),
+            ("x9", 9),
+            ("x10", 10),
+        ],
+        word,
+    )
 }
 
 #[tactic(auto, unfolding(crate::specs::Registers::middle_x))]
 fn middle_x(word: &str) -> Option<Reg>
     ensures { result ≡ look_up middle_x word.now }
 {
-    let rows = [
-        ("x11", 11),
-        ("x12", 12),
-        ("x13", 13),
-        ("x14", 14),
-        ("x15", 15),
-        ("x16", 16),
-        ("x17", 17),
-        ("x18", 18),
-        ("x19", 19),
-        ("x20", 20),
-        ("x21", 21),
-    ];
-    look_up(&rows, word)
+    look_up(
+        &[
+            ("x11", 11),
+            ("x12", 12),
+            ("x13", 13),
+            ("x14", 14),
+            ("x15", 15),
+            ("x16", 16),
+            ("x17", 17),
+            ("x18", 18),
+            ("x19", 19),
+            ("x20", 20),
+            ("x21", 21),
+        ],
+        word,
+    )
 }
 
 #[tactic(auto, unfolding(crate::specs::Registers::high_x))]
 fn high_x(word: &str) -> Option<Reg>
     ensures { result ≡ look_up high_x word.now }
 {
-    let rows = [
-        ("x22", 22),
-        ("x23", 23),
-        ("x24", 24),
-        ("x25", 25),
-        ("x26", 26),
-        ("x27", 27),
-        ("x28", 28),
-        ("x29", 29),
-        ("x30", 30),
-        ("x31", 31),
-    ];
-    look_up(&rows, word)
+    look_up(
+        &[
+            ("x22", 22),
+            ("x23", 23),
+            ("x24", 24),
+            ("x25", 25),
+            ("x26", 26),
+            ("x27", 27),
+            ("x28", 28),
+            ("x29", 29),
+            ("x30", 30),
+            ("x31", 31),
+        ],
+        word,
+    )
 }
 
 #[tactic(auto, unfolding(crate::specs::Registers::first_names))]
 fn first_name(word: &str) -> Option<Reg>
     ensures { result ≡ look_up first_names word.now }
 {
-    let rows = [
-        ("zero", 0),
-        ("ra", 1),
-        ("sp", 2),
-        ("gp", 3),
-        ("tp", 4),
-        ("t0", 5),
-        ("t1", 6),
-        ("t2", 7),
-        ("s0", 8),
-        ("fp", 8),
-        ("s1", 9),
-    ];
-    look_up(&rows, word)
+    look_up(
+        &[
+            ("zero", 0),
+            ("ra", 1),
+            ("sp", 2),
+            ("gp", 3),
+            ("tp", 4),
+            ("t0", 5),
+            ("t1", 6),
+            ("t2", 7),
+            ("s0", 8),
+            ("fp", 8),
+            ("s1", 9),
+        ],
+        word,
+    )
 }
 
 #[tactic(auto, unfolding(crate::specs::Registers::arguments))]
 fn argument(word: &str) -> Option<Reg>
     ensures { result ≡ look_up arguments word.now }
 {
-    let rows = [
-        ("a0", 10),
-        ("a1", 11),
-        ("a2", 12),
-        ("a3", 13),
-        ("a4", 14),
-        ("a5", 15),
-        ("a6", 16),
-        ("a7", 17),
-    ];
-    look_up(&rows, word)
+    look_up(
+        &[
+            ("a0", 10),
+            ("a1", 11),
+            ("a2", 12),
+            ("a3", 13),
+            ("a4", 14),
+            ("a5", 15),
+            ("a6", 16),
+            ("a7", 17),
+        ],
+        word,
+    )
 }
 
 #[tactic(auto, unfolding(crate::specs::Registers::last_names))]
 fn last_name(word: &str) -> Option<Reg>
     ensures { result ≡ look_up last_names word.now }
 {
-    let rows = [
-        ("s2", 18),
-        ("s3", 19),
-        ("s4", 20),
-        ("s5", 21),
-        ("s6", 22),
-        ("s7", 23),
-        ("s8", 24),
-        ("s9", 25),
-        ("s10", 26),
-        ("s11", 27),
-        ("t3", 28),
-        ("t4", 29),
-        ("t5", 30),
-        ("t6", 31),
-    ];
-    look_up(&rows, word)
+    look_up(
+        &[
+            ("s2", 18),
+            ("s3", 19),
+            ("s4", 20),
+            ("s5", 21),
+            ("s6", 22),
+            ("s7", 23),
+            ("s8", 24),
+            ("s9", 25),
+            ("s10", 26),
+            ("s11", 27),
+            ("t3", 28),
+            ("t4", 29),
+            ("t5", 30),
+            ("t6", 31),
+        ],
+        word,
+    )
 }
 
 impl Reg {
