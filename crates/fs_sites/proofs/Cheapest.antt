@@ -8,7 +8,7 @@ use Rattle.fs_cert_evidence.specs.declared.evidence.Pairs.{Pairs}
 use Rattle.fs_board_offers.specs.Offers.{Offers, IsPlacement, slots}
 use Rattle.fs_board_offers.specs.Questions.{HasTop}
 use Rattle.fs_board_offers.proofs.Ranked.{better-total}
-use Rattle.fs_sites_plan.specs.Plans.{is_within, breaks_all, IsFirstBreaking, NoneBreaks}
+use Rattle.fs_sites.specs.Plans.{is_within, breaks_all, IsFirstBreaking, NoneBreaks}
 use Rattle.fs_sites.specs.Questions.{Part, Question, AllowsIn, IsCheapestIn, top}
 use Rattle.fs_sites.specs.inner.Bars.{IsBarOf, AreBars}
 

@@ -3,3 +3,9 @@ pub mod Cheapest
 pub mod Filling
 pub mod Strongest
 pub mod Unbroken
+pub mod Advancing
+pub mod Entering
+pub mod Placed
+pub mod Reaching
+pub mod Sinking
+pub mod Walking

@@ -18,7 +18,7 @@ use Rattle.fs_cert_evidence.specs.Widths.{Width, width}
 use Rattle.fs_cert_evidence.specs.declared.evidence.Pairs.{Pairs}
 use Rattle.fs_board_offers.specs.Breaks.{fits}
 use Rattle.fs_board_offers.specs.Offers.{Offers, slots}
-use Rattle.fs_sites_plan.specs.Plans.{is_within}
+use Rattle.fs_sites.specs.Plans.{is_within}
 use Rattle.fs_sites.specs.Questions.{Part, AllowsIn, IsPart, image, kind_of, slots_at}
 use Rattle.fs_sites.specs.Answers.{IsShownIn, IsShownUnder}
 use Rattle.fs_sites.specs.declared.question.Place.{Place}

@@ -13,7 +13,7 @@ use Rattle.fs_model.specs.Allows.{Allows}
 use Rattle.fs_model.specs.Test.{IsBounded, IsStart}
 use Rattle.fs_board_offers.specs.Offers.{Offers, slots, is_better, IsPlacement}
 use Rattle.fs_board_offers.specs.Questions.{HasTop}
-use Rattle.fs_sites_plan.specs.Plans.{ArePlain}
+use Rattle.fs_sites.specs.Plans.{ArePlain}
 use Rattle.fs_sites.specs.declared.question.Place.{Place}
 
 -- a test, whose outcome is to be ruled out, with its places: before the instruction of a place's slot stands the fence of

@@ -22,7 +22,7 @@ use Rattle.fs_cert_evidence.specs.Widths.{width}
 use Rattle.fs_cert_evidence.specs.WitnessFile.{KeepsWitness}
 use Rattle.fs_cert_json.specs.Kept.{answer_of}
 use Rattle.fs_values.specs.ThinAir.{CanBeListed}
-use Rattle.fs_sites_plan.specs.Plans.{IsFirstBreaking}
+use Rattle.fs_sites.specs.Plans.{IsFirstBreaking}
 use Rattle.fs_sites.specs.Answers.{IsShownIn}
 use Rattle.fs_sites.specs.Questions.{Part, Question, image, slots_at, top}
 use Rattle.fs_sites.specs.declared.answer.Answer.{Answer}

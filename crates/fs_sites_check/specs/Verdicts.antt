@@ -7,7 +7,7 @@ use Rattle.fs_cert_evidence.specs.declared.evidence.Pairs.{Pairs}
 use Rattle.fs_cert_evidence.specs.declared.witness.WitnessFile.{WitnessFile}
 use Rattle.fs_cert_evidence.specs.Evidence.{Shown}
 use Rattle.fs_cert_evidence.specs.WitnessFile.{KeepsWitness}
-use Rattle.fs_sites_plan.specs.Plans.{IsFirstBreaking}
+use Rattle.fs_sites.specs.Plans.{IsFirstBreaking}
 use Rattle.fs_sites.specs.Answers.{IsAnswer, IsShownUnder}
 use Rattle.fs_sites.specs.Questions.{Part, Question, image, top}
 use Rattle.fs_sites_check.specs.Valid.{IsBarBy, IsValid}

@@ -16,8 +16,7 @@ use crate::refuted::first_unrefuted;
 use crate::words::is_answered;
 use fs_cert_json::CertifiedAnswer;
 use fs_kinds::{Fault, Placement};
-use fs_sites::{Answer, Question};
-use fs_sites_plan::first_breaking;
+use fs_sites::{Answer, Question, first_breaking};
 use std::alloc::Global;
 
 /// Why a certificate is refused. Numbers count from 0.

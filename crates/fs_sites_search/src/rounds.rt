@@ -7,7 +7,7 @@ ghost use Rattle.fs_board_offers.specs.Offers.{cost};
 ghost use Rattle.fs_board_offers.specs.Questions.{HasTop};
 ghost use Rattle.fs_cert_evidence.specs.CandidateFaults.{IsCandidateFault};
 ghost use Rattle.fs_judge.specs.Verdicts.{IsVerdict};
-ghost use Rattle.fs_sites_plan.specs.Plans.{ArePlain};
+ghost use Rattle.fs_sites.specs.Plans.{ArePlain};
 ghost use Rattle.fs_sites.specs.Questions.{AllowsIn, IsPart, IsQuestion, image, top};
 ghost use Rattle.fs_sites.specs.Answers.{IsAnswer, IsShownIn, IsSolveFault, IsPartFault};
 ghost use Rattle.fs_sites.specs.inner.Bars.{IsBarOf, IsShownBySome, ForbidBetween};
@@ -16,8 +16,7 @@ use fs_board_offers::Offers;
 use fs_cert_evidence::{Cycles, Inference, Pairs, Witness};
 use fs_judge::{Judge, Problem, Verdict};
 use fs_kinds::{Fault, List, Placement};
-use fs_sites::{Answer, Part, Question, bar_of, image};
-use fs_sites_plan::first_breaking;
+use fs_sites::{Answer, Part, Question, bar_of, first_breaking, image};
 use std::alloc::{AllocError, Global};
 use std::sync::Arc;
 

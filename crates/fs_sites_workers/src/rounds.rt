@@ -4,7 +4,7 @@
 ghost use Rattle.std.specs.Prelude.{◌≡◌, ◌≢◌, ◌<◌, [], All, IfOk, IfErr, MatchOption, IsOkUnless, OnOk};
 ghost use Rattle.fs_kinds.specs.declared.fault.Fault.TheVariants.{Memory};
 ghost use Rattle.fs_board_offers.specs.Questions.{HasTop};
-ghost use Rattle.fs_sites_plan.specs.Plans.{ArePlain};
+ghost use Rattle.fs_sites.specs.Plans.{ArePlain};
 ghost use Rattle.fs_sites.specs.Questions.{AllowsIn, IsPart, IsQuestion, top};
 ghost use Rattle.fs_sites.specs.Answers.{IsAnswer, IsShownIn, IsSolveFault, IsPartFault};
 ghost use Rattle.fs_sites.specs.inner.Bars.{AreBars, IsShownBySome};
@@ -14,8 +14,7 @@ use crate::seats::{Seat, all_allowing, first_allowing, seats_of};
 use fs_board_offers::Offers;
 use fs_cert_evidence::{Pairs, Witness};
 use fs_kinds::{Fault, List, Placement};
-use fs_sites::{Answer, Part, Question};
-use fs_sites_plan::first_breaking;
+use fs_sites::{Answer, Part, Question, first_breaking};
 use fs_sites_search::{bar_by, fenced};
 use std::alloc::{AllocError, Global};
 use std::thread;

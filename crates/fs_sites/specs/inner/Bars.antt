@@ -6,7 +6,7 @@ use Rattle.fs_board_offers.specs.Offers.{Offers, IsPlacement}
 use Rattle.fs_model.specs.Allows.{Allows}
 use Rattle.fs_cert_evidence.specs.declared.evidence.Pairs.{Pairs}
 use Rattle.fs_cert_evidence.specs.Evidence.{Shown, keeps}
-use Rattle.fs_sites_plan.specs.Plans.{is_within}
+use Rattle.fs_sites.specs.Plans.{is_within}
 use Rattle.fs_sites.specs.Answers.{IsShownIn}
 use Rattle.fs_sites.specs.Questions.{Part, AllowsIn, image}
 use Rattle.fs_sites.specs.declared.question.Place.{Place}

@@ -2,7 +2,7 @@ use Rattle.std.proofs.Common.{ℕ, Option, List, MatchOption, ◌∙◌, refl, s
 use Rattle.fs_kinds.specs.declared.placement.Entry.{Entry}
 use Rattle.fs_cert_evidence.specs.Evidence.{Shown}
 use Rattle.fs_cert_evidence.specs.declared.evidence.Pairs.{Pairs}
-use Rattle.fs_sites_plan.specs.Plans.{IsFirstBreaking, NoneBreaks}
+use Rattle.fs_sites.specs.Plans.{IsFirstBreaking, NoneBreaks}
 use Rattle.fs_sites.specs.Answers.{IsAnswer, IsShownIn}
 use Rattle.fs_sites.specs.Questions.{Question, AllowsIn}
 use Rattle.fs_sites.specs.inner.Bars.{AreBars}

@@ -1,6 +1,6 @@
 use Rattle.std.proofs.Common.{Option, List, MatchOption, refl, sym, subst}
 use Rattle.fs_kinds.specs.declared.placement.Entry.{Entry}
-use Rattle.fs_sites_plan.specs.Plans.{IsFirstBreaking, NoneBreaks}
+use Rattle.fs_sites.specs.Plans.{IsFirstBreaking, NoneBreaks}
 use Rattle.fs_sites.specs.Answers.{IsAnswer}
 use Rattle.fs_sites.specs.Questions.{Question}
 use Rattle.fs_sites.specs.inner.Bars.{AreBars}

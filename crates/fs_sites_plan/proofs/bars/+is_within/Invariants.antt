@@ -1,5 +1,0 @@
-use Rattle.std.proofs.Common.{length}
-use Rattle.fs_sites_plan.proofs.bars.+is_within.Given as goal
-
-abbrev pub decreases-is_within : goal.decreases-is_within
-decreases-is_within l = length l.bar.now

@@ -1,3 +1,0 @@
-pub mod Plans
-pub mod Sinking
-pub mod Walks
