@@ -1,5 +1,4 @@
-# What the program is built from, and which built program is made of it: the launcher, scripts that build or check crates, and
-# the check of the launcher read this file, with the repository's folder as `top`.
+# What the program is built from, and which built program is made of it. Whoever reads this file has set `top` to the repository's folder.
 
 out=$top/crates/rvfence/out
 own=$out/rvfence # the program that was built here, by the launcher or the gate
