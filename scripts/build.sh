@@ -1,6 +1,5 @@
-# Proves and builds the program and the crates that it stands on, by `rt`, which keeps what is proved for the next call.
-# How far it is goes to standard error, and all that rt says to a file. RT_JOBS says how many proofs go on at once.
-# scripts/sources.sh reads this file.
+# Proves and builds the program and its crates by `rt`, which keeps what is proved; scripts/sources.sh reads this file. How far
+# it is goes to standard error, all that rt says to a file. RT_JOBS says how many proofs go on at once.
 
 said=$out/build.log
 memory_of_proof=4500000 # kB
