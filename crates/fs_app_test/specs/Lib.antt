@@ -6,4 +6,3 @@ pub mod Notes
 pub mod Verdicts
 pub mod Report
 pub mod inner
-pub mod Vacuous

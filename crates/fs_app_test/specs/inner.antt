@@ -2,6 +2,3 @@
 pub mod Objects
 pub mod Parts
 pub mod Vacuities
-pub mod Settled
-pub mod Ends
-pub mod Runs

@@ -1,14 +1,11 @@
 //! What the command `test` answers, from the names and bytes of its files to the text that is printed: whether a test,
-//! as it is written, can show its outcome, and why, or is vacuous: no choice of runs and last words makes its outcome
-//! true; and whether that is what was expected. And the note that `solve` gives of a test that is vacuous.
+//! as it is written, can show its outcome, and why; and whether that is what was expected. And the note that `solve`
+//! gives of a test that is vacuous.
 #![tactic(auto)]
 
 mod comments;
 mod contradictions;
-mod end;
-mod ends;
 mod judged;
-mod laws;
 mod never;
 mod note;
 mod objects;
@@ -16,18 +13,14 @@ mod ordered;
 mod report;
 mod said;
 mod said_of_verdict;
-mod search;
-mod settled;
 mod status;
 mod test_words;
 mod tested;
-mod vacuity;
 mod vacuous;
 mod words;
 
 pub use comments::expected_of;
 pub use judged::judge_test;
-pub use laws::vacuous_forbids;
 pub use note::vacuous_note;
 pub use objects::test_objects;
 pub use report::{kind_text, padded, test_report};

@@ -1,0 +1,11 @@
+pub mod Settling
+pub mod Searching
+pub mod Numbered
+pub mod Chosen
+pub mod Equal
+pub mod Seen
+pub mod Words
+pub mod Registers
+pub mod Ways
+pub mod Counted
+pub mod Forbidden

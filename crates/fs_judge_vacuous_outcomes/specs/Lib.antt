@@ -1,0 +1,2 @@
+pub mod Vacuous
+pub mod inner

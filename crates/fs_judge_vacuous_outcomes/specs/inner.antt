@@ -1,0 +1,3 @@
+pub mod Settled
+pub mod Ends
+pub mod Runs
