@@ -14,7 +14,8 @@ use Rattle.fs_app_io.specs.declared.status.Status.{Status}
 use Rattle.fs_app_io.specs.declared.status.Status.TheVariants as status
 use Rattle.fs_app_test.specs.declared.said.Kind.{Kind}
 use Rattle.fs_app_test.specs.declared.said.Kind.TheVariants as kind
-use Rattle.fs_app_test.specs.Report.{kind_text, padded}
+use Rattle.fs_report.specs.Cells.{padded}
+use Rattle.fs_app_test.specs.Report.{kind_text}
 use Rattle.fs_app_audit.specs.Unfenced.{names_devices}
 use Rattle.fs_app_audit.specs.Advice.{advice_of, is_right}
 use Rattle.fs_app_audit.specs.declared.advice.Advice.{Advice}

@@ -6,7 +6,7 @@ ghost use Rattle.std.specs.List.{slice_index_or};
 ghost use Rattle.fs_kinds.specs.Limits.{most_harts, most_instructions};
 ghost use Rattle.fs_kinds.specs.PriceTable.{are_offered};
 ghost use Rattle.fs_kinds.specs.Slot.{place_name};
-ghost use Rattle.fs_app_test.specs.Report.{padded};
+ghost use Rattle.fs_report.specs.Cells.{padded};
 ghost use Rattle.fs_app_audit.specs.Report.{fence_letters, about, advice_text, line_text, line_of, advised, code_text};
 ghost use Rattle.fs_app_audit.specs.Report.{lines_text, cost_text, best_text, first_line, below, is_as_advised};
 ghost use Rattle.fs_app_audit.specs.Report.{audit_status};
@@ -14,10 +14,11 @@ ghost use Rattle.fs_app_audit.specs.Report.{audit_status};
 use crate::advice::{Advice, advice_of, is_right};
 use crate::names_devices;
 use fs_app_io::Status;
-use fs_app_test::{Kind, kind_text, padded};
+use fs_app_test::{Kind, kind_text};
 use fs_instr::Instr;
 use fs_kinds::{List, OperationName, Placement, Prices};
 use fs_litmus::Code;
+use fs_report::padded;
 use std::alloc::{AllocError, Global};
 
 /// The bytes that the line's number takes with its word, and the names of instructions, and the letters of FENCEs.

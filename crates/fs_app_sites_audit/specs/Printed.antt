@@ -15,7 +15,8 @@ use Rattle.fs_app_io.specs.declared.status.Status.{Status}
 use Rattle.fs_app_io.specs.declared.status.Status.TheVariants as status
 use Rattle.fs_app_test.specs.declared.said.Kind.{Kind}
 use Rattle.fs_app_test.specs.declared.said.Kind.TheVariants as verdict
-use Rattle.fs_app_test.specs.Report.{kind_text, padded}
+use Rattle.fs_report.specs.Cells.{padded}
+use Rattle.fs_app_test.specs.Report.{kind_text}
 use Rattle.fs_app_audit.specs.Report.{advice_text}
 use Rattle.fs_app_sites.specs.declared.content.File.{File}
 use Rattle.fs_app_sites.specs.Printed.{name_at}

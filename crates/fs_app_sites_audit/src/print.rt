@@ -6,7 +6,7 @@ ghost use Rattle.fs_app_sites_audit.specs.Printed.{audit_text, below, cheapest_t
 ghost use Rattle.fs_app_sites_audit.specs.Printed.{found_lines, line_text, row_text, shown_lines, width};
 ghost use Rattle.fs_app_sites_audit.specs.Printed.{written_text};
 ghost use Rattle.fs_app_sites.specs.Printed.{name_at};
-ghost use Rattle.fs_app_test.specs.Report.{padded};
+ghost use Rattle.fs_report.specs.Cells.{padded};
 ghost use Rattle.fs_app_audit.specs.Report.{advice_text};
 ghost use Rattle.fs_instr.specs.declared.instr.Instr.TheVariants.{FenceTso};
 
@@ -16,11 +16,11 @@ use crate::marks::Row;
 use fs_app_audit::{Advice, advice_text};
 use fs_app_error_messages::shown_name;
 use fs_app_sites::File;
-use fs_app_test::{Kind as Verdict, kind_text, padded};
+use fs_app_test::{Kind as Verdict, kind_text};
 use fs_cert_evidence::Witness;
 use fs_instr::Instr;
 use fs_kinds::Kind;
-use fs_report::witness_text;
+use fs_report::{padded, witness_text};
 use fs_sites::Answer;
 use std::alloc::{AllocError, Global};
 

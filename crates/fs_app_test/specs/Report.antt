@@ -1,10 +1,11 @@
 -- What `test` prints of its files.
-use Rattle.std.specs.Prelude.{ℕ, ◌-◌, ◌==◌, Bool, true, false, max, Option, None, Some, List, [], ◌∷◌, ◌++◌, length, count_by, fold, codes, string_bytes, if◌then◌else◌}
+use Rattle.std.specs.Prelude.{ℕ, ◌==◌, Bool, true, false, max, Option, None, Some, List, [], ◌∷◌, ◌++◌, length, count_by, fold, codes, string_bytes, if◌then◌else◌}
 use Rattle.std.specs.Fmt.{decimal}
-use Rattle.std.specs.List.{flat_map, repeat}
+use Rattle.std.specs.List.{flat_map}
 use Rattle.serde_json.specs.Data.{Data, null, object, string}
 use Rattle.serde_json.specs.Written.{compact_text}
 use Rattle.fs_model.specs.Printed.{ended, joined}
+use Rattle.fs_report.specs.Cells.{padded}
 use Rattle.fs_report.specs.Values.{number_or_null}
 use Rattle.fs_cert_evidence.specs.Texts.{members_of, witness_value}
 use Rattle.fs_cert_evidence.specs.Evidence.{Shown}
@@ -27,10 +28,6 @@ shown_name line = name_text (string_bytes line.name)
 -- the characters of the longest name
 abbrev pub width : List Line → ℕ
 width lines = fold (λ most line. max most (length (shown_name line))) 0 lines
-
--- the name with blanks behind it up to this width
-abbrev pub padded : ℕ → List ℕ → List ℕ
-padded most name = name ++ repeat (most - length name) (codes " ")
 
 abbrev pub kind_text : Kind → List ℕ
 kind_text kind.Forbidden = codes "forbidden"

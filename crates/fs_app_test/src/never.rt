@@ -16,12 +16,12 @@ ghost use Rattle.fs_app_test.specs.inner.Parts.{ends_with};
 ghost use Rattle.fs_app_test.specs.Words.{stores_word, ends_as, is_stored, can_have, of_two, first_never};
 ghost use Rattle.fs_app_test.specs.Words.{atoms, never_in_outcome, never_words};
 
-use crate::test_words::{name_of, value_text};
 use fs_instr::Reg;
 use fs_kinds::List;
 use fs_model::{Location, Outcome, Quantifier, Step, Test};
 use fs_region_refutation::Basis;
 use fs_region_runs::Lone;
+use fs_report::{name_of, value_text};
 use std::alloc::{AllocError, Global};
 
 /// So many atoms has a condition at most of which one is named.

@@ -6,7 +6,7 @@ ghost use Rattle.std.specs.List.{flat_map};
 ghost use Rattle.fs_kinds.specs.declared.fault.Fault.TheVariants.{Memory};
 ghost use Rattle.fs_model.specs.Printed.{joined};
 ghost use Rattle.fs_app_test.specs.Status.{is_met, report_status};
-ghost use Rattle.fs_app_test.specs.Report.{width, padded, kind_text, label, line_text, count_of, count_text, mark};
+ghost use Rattle.fs_app_test.specs.Report.{width, kind_text, label, line_text, count_of, count_text, mark};
 ghost use Rattle.fs_app_test.specs.Report.{count_piece, expected_text, met_text, pieces, summary, report_text};
 ghost use Rattle.fs_app_test.specs.Report.{unmet_text, wanted_text};
 
@@ -15,6 +15,7 @@ use crate::{Expected, Kind, Line, counted, status_of};
 use fs_app_error_messages::shown_name;
 use fs_app_io::Output;
 use fs_kinds::Fault;
+use fs_report::padded;
 use std::alloc::{AllocError, Global};
 
 /// The lines of the files, a last line that counts them, and the status: 1 where an outcome is possible; else 2 where a
@@ -143,16 +144,6 @@ fn label(kind: Kind) -> &'static str
         Kind::Vacuous => "vacuous    ",
         Kind::Faulty => "",
     }
-}
-
-/// The text with blanks behind it up to this many bytes; a longer text as it is.
-pub fn padded(alloc: Global, width: usize, text: &str) -> Result<String, AllocError>
-    ensures { IfOk result (λ padding. string_bytes padding ≡ padded width text.now) }
-{
-    let mut padding = String::from_str(alloc, text)?;
-    let blanks = " ".repeat(alloc, width.saturating_sub(text.len()))?;
-    padding.push_str(blanks.as_str())?;
-    Ok(padding)
 }
 
 /// How many of the lines are of the kind.

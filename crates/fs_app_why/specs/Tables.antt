@@ -1,7 +1,7 @@
 -- Rows whose cells stand in columns, each as wide as its longest cell.
 use Rattle.std.specs.Prelude.{ℕ, max, List, ◌++◌, length, fold, codes}
 use Rattle.std.specs.List.{flat_map}
-use Rattle.fs_app_test.specs.Report.{padded}
+use Rattle.fs_report.specs.Cells.{padded}
 use Rattle.fs_app_why.specs.declared.table.Column.{Column}
 use Rattle.fs_app_why.specs.declared.table.Column.TheVariants as column
 use Rattle.fs_app_why.specs.declared.table.Row.{Row}

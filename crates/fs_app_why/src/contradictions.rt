@@ -15,7 +15,6 @@ use crate::rows::{line_cell, name_cell};
 use crate::signs::{Sign, some_told};
 use crate::table::{Row, table_text};
 use crate::words::{loads, stores, word_text};
-use fs_app_test::value_text;
 use fs_app_why_kinds::{
     Arrow, Chain, ChainKind, ChainLink, Known, Shape, Telling, arrow_text, instr_named, instr_text,
     is_told, rest_text, told_links, told_place,
@@ -23,6 +22,7 @@ use fs_app_why_kinds::{
 use fs_instr::Instr;
 use fs_kinds::List;
 use fs_model::{Location, Name, Test};
+use fs_report::value_text;
 use std::alloc::{AllocError, Global};
 
 // ---- what an operation does, as far as all runs that are left agree

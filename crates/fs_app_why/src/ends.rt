@@ -14,11 +14,11 @@ ghost use Rattle.fs_app_why.specs.Traces.{with_cell, register_cell, location_cel
 ghost use Rattle.fs_app_why.specs.Traces.{spaced};
 
 use crate::words::word_text;
-use fs_app_test::name_of;
 use fs_check::OrderedCandidate;
 use fs_instr::Reg;
 use fs_model::{Location, Name, Outcome, Test};
 use fs_model_axioms::{final_register, final_word};
+use fs_report::name_of;
 use std::alloc::{AllocError, Global};
 
 /// The word with which the register ends.

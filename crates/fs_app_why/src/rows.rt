@@ -13,12 +13,12 @@ ghost use Rattle.fs_model.specs.Numbers.{stands_before};
 use crate::marks::mark_text;
 use crate::table::Row;
 use crate::words::word_text;
-use fs_app_test::value_text;
 use fs_app_why_kinds::line_of;
 use fs_app_why_nearer::Told;
 use fs_instr::{Instr, write_instr};
 use fs_kinds::{List, OperationName};
 use fs_model::{Location, Name, Test, stands_before};
+use fs_report::value_text;
 use std::alloc::{AllocError, Global};
 
 /// From which store a load returns.

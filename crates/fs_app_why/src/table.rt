@@ -3,8 +3,8 @@
 ghost use Rattle.std.specs.Prelude.{◌≡◌, ◌++◌, IfOk, OnOk, string_bytes};
 ghost use Rattle.fs_app_why.specs.Tables.{cell, width, padded_cell, row_text, table_text};
 
-use fs_app_test::padded;
 use fs_model::Name;
+use fs_report::padded;
 use std::alloc::{AllocError, Global};
 
 /// An operation in print.

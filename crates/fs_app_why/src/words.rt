@@ -5,11 +5,11 @@ ghost use Rattle.fs_kinds.specs.Limits.{most_locations};
 ghost use Rattle.fs_model.specs.Forms.{is_loading, is_storing};
 ghost use Rattle.fs_app_why.specs.Words.{is_address, word_text, place_text};
 
-use fs_app_test::value_text;
 use fs_app_why_kinds::line_of;
 use fs_instr::Instr;
 use fs_kinds::{List, OperationName};
 use fs_model::Location;
+use fs_report::value_text;
 use std::alloc::{AllocError, Global};
 
 /// Is the word the address of a location?

@@ -2,12 +2,16 @@
 //! as JSON.
 #![tactic(auto)]
 
+mod cells;
 mod fences;
 mod objects;
+mod test_words;
 mod values;
 mod witness;
 
+pub use cells::padded;
 pub use fences::fenced_text;
 pub use objects::{fenced_value, json_line, none_value};
+pub use test_words::{name_of, value_text};
 pub use values::{kind_or_null, number_or_null};
 pub use witness::{none_text, witness_text, witness_value};
