@@ -9,7 +9,7 @@ use Rattle.fs_model_laws.specs.InPlace.{memory_kind}
 use Rattle.fs_board_offers.specs.Offers as offers
 use Rattle.fs_cert_evidence.specs.Texts.{array_of, members_of, number}
 use Rattle.fs_app_test.specs.declared.said.Kind.{Kind as Said}
-use Rattle.fs_report.specs.Values.{kind_or_null, number_or_null}
+use Rattle.fs_report.specs.Nullable.{kind_or_null, number_or_null}
 use Rattle.fs_app_test.specs.Report.{kind_text}
 use Rattle.fs_app_audit.specs.Audit.{Findings}
 use Rattle.fs_app_audit.specs.InPlace.{offers_in_place, written_cost}

@@ -6,7 +6,7 @@ use Rattle.fs_instr.specs.declared.instr.Instr.TheVariants.{FenceTso}
 use Rattle.fs_cert_evidence.specs.Texts.{array_of, members_of, number, witness_value}
 use Rattle.fs_model.specs.Witness.{Witness}
 use Rattle.fs_report.specs.Objects.{json_line}
-use Rattle.fs_report.specs.Values.{kind_or_null, number_or_null}
+use Rattle.fs_report.specs.Nullable.{kind_or_null, number_or_null}
 use Rattle.fs_sites.specs.declared.answer.Answer.{Answer}
 use Rattle.fs_sites.specs.declared.answer.Answer.TheVariants as answer
 use Rattle.fs_app_test.specs.declared.said.Kind.{Kind}

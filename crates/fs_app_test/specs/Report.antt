@@ -6,7 +6,7 @@ use Rattle.serde_json.specs.Data.{Data, null, object, string}
 use Rattle.serde_json.specs.Written.{compact_text}
 use Rattle.fs_model.specs.Printed.{ended, joined}
 use Rattle.fs_report.specs.Cells.{padded}
-use Rattle.fs_report.specs.Values.{number_or_null}
+use Rattle.fs_report.specs.Nullable.{number_or_null}
 use Rattle.fs_cert_evidence.specs.Texts.{members_of, witness_value}
 use Rattle.fs_cert_evidence.specs.Evidence.{Shown}
 use Rattle.fs_app_error_messages.specs.Messages.{name_text}

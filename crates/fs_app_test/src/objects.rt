@@ -5,7 +5,7 @@ ghost use Rattle.serde_json.specs.View.{view};
 ghost use Rattle.serde_json.specs.Written.{compact_text};
 ghost use Rattle.fs_kinds.specs.declared.fault.Fault.TheVariants.{Memory};
 ghost use Rattle.fs_app_test.specs.Status.{report_status};
-ghost use Rattle.fs_report.specs.Values.{number_or_null};
+ghost use Rattle.fs_report.specs.Nullable.{number_or_null};
 ghost use Rattle.fs_app_test.specs.Report.{expected_value, line_value, json_line, json_text};
 ghost use Rattle.fs_app_test.specs.inner.Objects.{plain_object, witness_object, fault_object};
 

@@ -1,5 +1,5 @@
 pub mod Given
 pub mod Objects
 pub mod Cells
-pub mod Values
+pub mod Nullable
 pub mod inner

@@ -2,7 +2,7 @@
 
 ghost use Rattle.std.specs.Prelude.{◌≡◌, IfOk};
 ghost use Rattle.serde_json.specs.View.{view};
-ghost use Rattle.fs_report.specs.Values.{number_or_null, kind_or_null};
+ghost use Rattle.fs_report.specs.Nullable.{number_or_null, kind_or_null};
 
 use fs_kinds::Kind;
 use serde_json::{Value, json};
