@@ -1,6 +1,8 @@
 //! The operands of an instruction, read part by part. An instruction has fewer than 20 tokens.
 
-ghost use Rattle.std.specs.Prelude.{◌≡◌, option_map};
+ghost use Rattle.std.specs.Prelude.{◌≡◌, ℕ, List, Option, option_map};
+ghost use Rattle.fs_litmus_tokens.specs.Tokens.{Tok};
+ghost use Rattle.fs_instr.specs.declared.letters.Letters.{Letters};
 ghost use Rattle.fs_instr.specs.declared.operands.Operands.{Operands};
 ghost use Rattle.fs_instr.specs.declared.operands.OperandPart.TheVariants.{Zero, Immediate, Offset, Below, Constant};
 ghost use Rattle.fs_instr.specs.declared.operands.OperandPart.TheVariants.{NoOffset};
@@ -128,21 +130,33 @@ fn take_sign<'b, 'a>(mark: Mark, tokens: &'b [Token<'a>]) -> Option<&'b [Token<'
 }
 
 #[tactic(auto, unfolding(crate::specs::Operands::take_register))]
-fn read_register<'b, 'a>(register: &mut Reg, tokens: &'b [Token<'a>]) -> Option<&'b [Token<'a>]>
-    ensures { option_map (λ rest. (register.new, toks rest.now)) result ≡ take_register (toks tokens.now) }
+fn read_register<'b, 'a>(
+    register: &mut Reg,
+    label: Option<&'a str>,
+    tokens: &'b [Token<'a>],
+) -> Option<(Option<&'a str>, &'b [Token<'a>])>
+    ensures { option_map (λ x. (register.new, option_map (λ w. w.now) x.0, toks x.1.now)) result
+        ≡ option_map {U = ℕ × Option (List ℕ) × List Tok} (λ x. (x.0, option_map (λ w. w.now) label.entry, x.1))
+        (take_register (toks tokens.now)) }
 {
     let (word, rest) = take_word(tokens)?;
     *register = Reg::of(word)?;
-    Some(rest)
+    Some((label, rest))
 }
 
 #[tactic(auto, unfolding(crate::specs::Operands::take_letters))]
-fn read_letters<'b, 'a>(letters: &mut Letters, tokens: &'b [Token<'a>]) -> Option<&'b [Token<'a>]>
-    ensures { option_map (λ rest. (letters.new, toks rest.now)) result ≡ take_letters (toks tokens.now) }
+fn read_letters<'b, 'a>(
+    letters: &mut Letters,
+    label: Option<&'a str>,
+    tokens: &'b [Token<'a>],
+) -> Option<(Option<&'a str>, &'b [Token<'a>])>
+    ensures { option_map (λ x. (letters.new, option_map (λ w. w.now) x.0, toks x.1.now)) result
+        ≡ option_map {U = Letters × Option (List ℕ) × List Tok} (λ x. (x.0, option_map (λ w. w.now) label.entry, x.1))
+        (take_letters (toks tokens.now)) }
 {
     let (word, rest) = take_word(tokens)?;
     *letters = Letters::of(word)?;
-    Some(rest)
+    Some((label, rest))
 }
 
 #[tactic(auto, unfolding(crate::specs::Operands::take_unsigned))]
@@ -314,18 +328,9 @@ fn read_part<'b, 'a>(
         ≡ read_part part (filled operands.old label.entry) (toks tokens.now) }
 {
     match part {
-        OperandPart::Rd => {
-            let rest = read_register(&mut operands.rd, tokens)?;
-            Some((label, rest))
-        }
-        OperandPart::First => {
-            let rest = read_register(&mut operands.first, tokens)?;
-            Some((label, rest))
-        }
-        OperandPart::Second => {
-            let rest = read_register(&mut operands.second, tokens)?;
-            Some((label, rest))
-        }
+        OperandPart::Rd => read_register(&mut operands.rd, label, tokens),
+        OperandPart::First => read_register(&mut operands.first, label, tokens),
+        OperandPart::Second => read_register(&mut operands.second, label, tokens),
         OperandPart::Zero => read_zero(operands, label, tokens),
         OperandPart::Sign(mark) => {
             let rest = take_sign(mark, tokens)?;
@@ -340,14 +345,8 @@ fn read_part<'b, 'a>(
             let (word, rest) = take_name(tokens)?;
             Some((Some(word), rest))
         }
-        OperandPart::Before => {
-            let rest = read_letters(&mut operands.before, tokens)?;
-            Some((label, rest))
-        }
-        OperandPart::After => {
-            let rest = read_letters(&mut operands.after, tokens)?;
-            Some((label, rest))
-        }
+        OperandPart::Before => read_letters(&mut operands.before, label, tokens),
+        OperandPart::After => read_letters(&mut operands.after, label, tokens),
     }
 }
 
