@@ -24,16 +24,17 @@ fn front_label<'a>(tokens: &[Token<'a>]) -> Option<(&'a str, usize)>
     ensures value { option_map (λ x. (x.0.now, x.1)) result ≡ front_label (views tokens.now) }
     ensures room { IfSome result (λ x. 2 ≤ length tokens.now) }
 {
-    let (first, rest) = tokens.split_first()?;
-    let (second, _) = rest.split_first()?;
-    match first.kind {
-        Kind::Word(class, name) => {
-            if is_label(class) && is_colon(second) {
-                Some((name, first.line))
-            } else {
-                None
+    match tokens {
+        [first, second, ..] => match first.kind {
+            Kind::Word(class, name) => {
+                if is_label(class) && is_colon(second) {
+                    Some((name, first.line))
+                } else {
+                    None
+                }
             }
-        }
+            _ => None,
+        },
         _ => None,
     }
 }
