@@ -1016,7 +1016,7 @@ fn push_copy(alloc: Global, copies: &mut Vec<String>, word: &str) -> Result<(), 
 // ---- the commands, and what each takes
 
 /// The names of the commands, in the order in which help lists them.
-const COMMANDS: [&str; 8] = [
+const COMMANDS: &[&str] = &[
     "test",
     "solve",
     "audit",
@@ -1095,7 +1095,7 @@ struct Parameter {
     help: &'static str,
 }
 
-const PARAMETERS: [Parameter; 53] = [
+const PARAMETERS: &[Parameter] = &[
     Parameter {
         command: "test",
         name: "FILE",
@@ -1476,7 +1476,7 @@ struct Conflict {
     other: &'static str,
 }
 
-const CONFLICTS: [Conflict; 27] = [
+const CONFLICTS: &[Conflict] = &[
     Conflict {
         command: "test",
         name: "why",
@@ -1621,7 +1621,7 @@ fn whole_command<'a>(
     has_sites: bool,
 ) -> Result<Command<'a>, AllocError> {
     let mut program = bare_program(alloc);
-    for name in &COMMANDS {
+    for name in COMMANDS {
         let many = takes_many(name, audits_many, has_sites);
         program = with_command(alloc, program, name, many)?;
     }
@@ -1659,7 +1659,7 @@ fn with_command<'a>(
 /// The command, which takes one file or any number.
 fn command_of<'a>(alloc: Global, name: &'a str, many: bool) -> Result<Command<'a>, AllocError> {
     let mut command = bare_command(alloc, name);
-    for parameter in &PARAMETERS {
+    for parameter in PARAMETERS {
         if is_of(parameter, name, many) {
             command = with_argument(alloc, command, parameter, many)?;
         }
@@ -1707,7 +1707,7 @@ fn argument_of<'a>(
     many: bool,
 ) -> Result<Arg<'a>, AllocError> {
     let mut argument = argument(alloc, parameter, many);
-    for conflict in &CONFLICTS {
+    for conflict in CONFLICTS {
         if conflict.command == parameter.command && conflict.name == parameter.name {
             argument = argument.conflicts_with(conflict.other)?;
         }
