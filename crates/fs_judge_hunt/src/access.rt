@@ -80,13 +80,21 @@ pub fn word_in(key: u64) -> u32 {
 
 /// The word that the location begins with.
 pub fn initial_word(test: &Test, location: u8) -> Option<u32> {
-    let location = test.locations.as_slice().get(usize::from(location))?;
-    Some(location.word)
+    let locations = test.locations.as_slice();
+    let place = usize::from(location);
+    if place < locations.len() {
+        Some(locations[place].word)
+    } else {
+        None
+    }
 }
 
 /// The class of this number.
 pub fn class_of(classes: &[Group], key: u64) -> Option<&Group> {
     let place = classes.partition_point(|class| class.key < key);
-    let class = classes.get(place)?;
-    if class.key == key { Some(class) } else { None }
+    if place < classes.len() && classes[place].key == key {
+        Some(&classes[place])
+    } else {
+        None
+    }
 }

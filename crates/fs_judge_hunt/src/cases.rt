@@ -107,9 +107,13 @@ fn replaced(
     parts: &[Wanted],
 ) -> Result<Vec<Wanted>, AllocError> {
     let mut made = Vec::new(alloc);
-    made.extend_from_slice(wanted.get(..number).unwrap_or(&[]))?;
-    made.extend_from_slice(parts)?;
-    made.extend_from_slice(wanted.get(number.saturating_add(1)..).unwrap_or(&[]))?;
+    for (place, known) in wanted.iter().enumerate() {
+        if place == number {
+            made.extend_from_slice(parts)?;
+        } else {
+            made.push(*known)?;
+        }
+    }
     Ok(made)
 }
 
@@ -141,36 +145,37 @@ impl Splitter<'_> {
         Ok(())
     }
 
-    /// The regions of the ways in which the wanted condition of this number gets its truth value.
-    pub(crate) fn by_cases(
+    /// Adds the regions of the ways in which the wanted condition of this number gets its truth value.
+    pub(crate) fn push_cases(
         self,
+        left: &mut Vec<Region>,
         region: &Region,
         number: usize,
-    ) -> Result<Vec<Region>, AllocError> {
-        let mut left = Vec::new(self.alloc);
-        if let Some(wanted) = region.wanted.get(number) {
-            self.push_cases(&mut left, region, number, *wanted)?;
+    ) -> Result<(), AllocError> {
+        match region.wanted.get(number) {
+            Some(wanted) => self.push_ways(left, region, number, *wanted),
+            None => Ok(()),
         }
-        Ok(left)
     }
 
     /// Adds these.
-    fn push_cases(
+    fn push_ways(
         self,
         left: &mut Vec<Region>,
         region: &Region,
         number: usize,
         wanted: Wanted,
     ) -> Result<(), AllocError> {
-        let Some(node) = self.field.nodes.get(wanted.node) else {
-            return Ok(());
-        };
         let Wanted { node: whole, truth } = wanted;
+        if whole >= self.field.nodes.len() {
+            return Ok(());
+        }
+        let part = self.field.nodes[whole].part;
         let one = left_of(whole);
         let other = right_of(self.field.nodes, whole);
-        match node.part {
+        match part {
             Part::Deny => self.push_parts(left, region, number, &[to_be(one, !truth)]),
-            Part::Both | Part::Either if is_at_once(node.part, truth) => {
+            Part::Both | Part::Either if is_at_once(part, truth) => {
                 self.push_parts(
                     left,
                     region,

@@ -61,6 +61,17 @@ pub(crate) fn look(alloc: Global, field: Field<'_>, region: Region) -> Result<Ch
     }
 }
 
+impl Split {
+    /// Adds the region, which was looked at.
+    fn add(&mut self, child: Child) -> Result<(), AllocError> {
+        if let Child::Open(_, _) = &child {
+            self.live = self.live.saturating_add(1);
+        }
+        self.children.push(child)?;
+        Ok(())
+    }
+}
+
 /// What ends the region of the branch, if a look on the way has shown it.
 fn dead_at(
     trail: &Trail,
@@ -95,15 +106,25 @@ impl Chooser<'_> {
     ) -> Result<(), AllocError> {
         let branch = self.splitter().branch(split.decision, &region);
         if let Some(dead) = dead_at(trail, branch, &region)? {
-            split.children.push(Child::Ended(dead, region))?;
-        } else if split.live >= most {
+            return split.add(Child::Ended(dead, region));
+        }
+        if split.live >= most {
             split.live = split.live.saturating_add(1);
-        } else {
-            let child = self.look_at(trail, branch, region)?;
-            if let Child::Open(_, _) = &child {
-                split.live = split.live.saturating_add(1);
-            }
-            split.children.push(child)?;
+            return Ok(());
+        }
+        split.add(self.look_at(trail, branch, region)?)
+    }
+
+    /// The same for each of these.
+    fn add_children(
+        &self,
+        trail: &mut Trail,
+        split: &mut Split,
+        regions: Vec<Region>,
+        most: usize,
+    ) -> Result<(), AllocError> {
+        for region in regions {
+            self.add_child(trail, split, region, most)?;
         }
         Ok(())
     }
@@ -142,9 +163,7 @@ impl Chooser<'_> {
             used: self.used(decision),
             live: 0,
         };
-        for region in regions {
-            self.add_child(trail, &mut split, region, most)?;
-        }
+        self.add_children(trail, &mut split, regions, most)?;
         trail.set_open(decision, split.live);
         Ok(if split.live < most { Some(split) } else { None })
     }
@@ -169,7 +188,7 @@ impl Chooser<'_> {
         let mut most = usize::MAX;
         let options = self.options(trail)?;
         for (number, choice) in options.choices.iter().enumerate() {
-            if best.is_some() && options.is_late(number, choice, most) {
+            if options.is_late(number, choice, most) {
                 break;
             }
             let limit = if best.is_some() {
@@ -177,11 +196,10 @@ impl Chooser<'_> {
             } else {
                 most
             };
-            let Some(split) = self.try_split(trail, choice.decision, limit)? else {
-                continue;
-            };
-            most = split.live;
-            best = Some(split);
+            if let Some(split) = self.try_split(trail, choice.decision, limit)? {
+                most = split.live;
+                best = Some(split);
+            }
             if most <= 1 {
                 break;
             }

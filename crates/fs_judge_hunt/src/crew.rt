@@ -125,17 +125,16 @@ impl Chase<'_> {
     ) -> Result<(Option<Search>, Hunted), AllocError>
         requires { C.may_hunt }
     {
-        let limits = Limits::of(self.most);
-        if crew.is_alone() {
-            let hunted = search.hunt(alloc, self.field(), limits)?;
-            return Ok((Some(search), hunted));
-        }
-        let few = Limits {
+        let is_alone = crew.is_alone();
+        let limits = Limits {
             regions: self.most,
-            looks: LOOKS_ALONE,
+            looks: if is_alone { usize::MAX } else { LOOKS_ALONE },
         };
-        let hunted = search.hunt(alloc, self.field(), few)?;
-        if !matches!(&hunted, Hunted::GaveUp) || search.has_passed(limits) {
+        let hunted = search.hunt(alloc, self.field(), limits)?;
+        let is_done = is_alone
+            || !matches!(&hunted, Hunted::GaveUp)
+            || search.has_passed(Limits::of(self.most));
+        if is_done {
             return Ok((Some(search), hunted));
         }
         gathered(alloc, crew.hunt(alloc, self, Piece::whole(search))?)

@@ -50,11 +50,12 @@ impl<'a> Outlook<'a> {
     }
 
     pub(crate) fn initial_word(&self, location: u8) -> u32 {
-        self.field
-            .words
-            .get(usize::from(location))
-            .copied()
-            .unwrap_or(0)
+        let place = usize::from(location);
+        if place < self.field.words.len() {
+            self.field.words[place]
+        } else {
+            0
+        }
     }
 
     /// What may be stored last at the location under the name.
@@ -102,9 +103,10 @@ impl<'a> Outlook<'a> {
 
     /// The runs of its hart with which the atom of this number is true.
     pub(crate) fn atom_row(&self, node: usize) -> &'a [u64] {
-        match self.field.atoms.get(node) {
-            Some(row) => row.as_slice(),
-            None => &[],
+        if node < self.field.atoms.len() {
+            self.field.atoms[node].as_slice()
+        } else {
+            &[]
         }
     }
 

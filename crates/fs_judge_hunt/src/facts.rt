@@ -116,9 +116,9 @@ impl Facts {
     }
 
     fn add_stored(&mut self, name: u8) {
-        let location = self.store_at(name);
-        if let Some(names) = self.stored.get_mut(usize::from(location)) {
-            *names |= bit(name);
+        let location = usize::from(self.store_at(name));
+        if location < MOST_LOCATIONS {
+            self.stored[location] |= bit(name);
         }
     }
 
@@ -134,22 +134,31 @@ impl Facts {
 
     /// The location that each run loads from at the name.
     pub(crate) fn load_at(&self, name: u8) -> u8 {
-        self.load_at
-            .get(usize::from(name))
-            .copied()
-            .unwrap_or(NOWHERE)
+        let name = usize::from(name);
+        if name < MOST_NAMES {
+            self.load_at[name]
+        } else {
+            NOWHERE
+        }
     }
 
     pub(crate) fn store_at(&self, name: u8) -> u8 {
-        self.store_at
-            .get(usize::from(name))
-            .copied()
-            .unwrap_or(NOWHERE)
+        let name = usize::from(name);
+        if name < MOST_NAMES {
+            self.store_at[name]
+        } else {
+            NOWHERE
+        }
     }
 
     /// What must be stored at the location.
     pub(crate) fn stored(&self, location: u8) -> u64 {
-        self.stored.get(usize::from(location)).copied().unwrap_or(0)
+        let location = usize::from(location);
+        if location < MOST_LOCATIONS {
+            self.stored[location]
+        } else {
+            0
+        }
     }
 
     /// Must both be stored at one location?

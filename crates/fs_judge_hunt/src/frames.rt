@@ -54,6 +54,26 @@ pub(crate) struct Ground<'a> {
     pub(crate) field: Field<'a>,
 }
 
+impl Ground<'_> {
+    /// The part of this number of those that the decision makes of the region, if it makes so many.
+    fn part(
+        self,
+        region: &Region,
+        decision: Decision,
+        part: usize,
+    ) -> Result<Option<Region>, AllocError> {
+        let splitter = Splitter {
+            alloc: self.alloc,
+            field: self.field,
+        };
+        let mut parts = splitter.parts(region, decision)?;
+        if part >= parts.len() {
+            return Ok(None);
+        }
+        Ok(Some(parts.swap_remove(part)))
+    }
+}
+
 /// A node with parts, of which some have been looked through.
 #[derive(Drop)]
 pub(crate) struct Frame {
@@ -119,7 +139,8 @@ impl Search {
     /// The pairs of stores that are known below so many nodes of the path with these pairs placed.
     fn known(&self, depth: usize, placed: &SlotPairs) -> Relation {
         let mut known = self.tree.start;
-        for frame in self.path.iter().take(depth) {
+        for place in 0..depth.min(self.path.len()) {
+            let frame = &self.path[place];
             if let Some(branching) = self.tree.branching(frame.node) {
                 branching.add_held(&mut known, placed);
                 branching.add_decided(&mut known, frame.part);
@@ -209,36 +230,29 @@ impl Search {
         Ok(Leaf { dead, need })
     }
 
-    /// The part of the region into which the path goes at this frame.
+    /// The part of the region, if there is one, into which the path goes at this frame.
     fn part_of(
         &self,
         ground: Ground<'_>,
-        region: Region,
+        region: Option<Region>,
         depth: usize,
         frame: &Frame,
     ) -> Result<Option<Region>, AllocError> {
+        let Some(mut bare) = region else {
+            return Ok(None);
+        };
         let Some(branching) = self.tree.branching(frame.node) else {
             return Ok(None);
         };
-        let mut bare = region;
         bare.before = self.known(depth.saturating_add(1), &SlotPairs::new());
-        let splitter = Splitter {
-            alloc: ground.alloc,
-            field: ground.field,
-        };
-        let mut parts = splitter.parts(&bare, branching.decision)?;
-        if frame.part >= parts.len() {
-            return Ok(None);
-        }
-        parts.truncate(frame.part.saturating_add(1));
-        Ok(parts.pop())
+        ground.part(&bare, branching.decision, frame.part)
     }
 
     /// How many of the first so many nodes of the path are above the last one whose region is kept.
     pub(crate) fn kept_above(&self, count: usize) -> usize {
         let mut above = 0;
-        for (depth, frame) in self.path.iter().take(count).enumerate() {
-            if self.tree.region(frame.node).is_some() {
+        for depth in 0..count.min(self.path.len()) {
+            if self.tree.region(self.path[depth].node).is_some() {
                 above = depth;
             }
         }
@@ -247,35 +261,31 @@ impl Search {
 
     /// The region of the node below the path, but for its pairs of stores.
     fn region_of(&self, ground: Ground<'_>, node: usize) -> Result<Option<Region>, AllocError> {
-        if let Some(region) = self.tree.region(node) {
-            return Ok(Some(region.copy(ground.alloc)?));
+        let kept = self.tree.copy_of(ground.alloc, node)?;
+        if kept.is_some() {
+            return Ok(kept);
         }
-        let mut made: Option<Region> = None;
-        let start = self.kept_above(self.path.len());
-        for (depth, frame) in self.path.iter().enumerate() {
-            if depth < start {
-                continue;
-            }
-            let region = match (made.take(), self.tree.region(frame.node)) {
-                (Some(region), _) => region,
-                (None, Some(region)) => region.copy(ground.alloc)?,
-                (None, None) => return Ok(None),
-            };
-            made = self.part_of(ground, region, depth, frame)?;
+        self.region_below(ground, self.kept_above(self.path.len()))
+    }
+
+    /// The region into which the path goes at its end, made from the one of its node at this depth.
+    fn region_below(&self, ground: Ground<'_>, start: usize) -> Result<Option<Region>, AllocError> {
+        if start >= self.path.len() {
+            return Ok(None);
+        }
+        let mut made = self.tree.copy_of(ground.alloc, self.path[start].node)?;
+        for depth in start..self.path.len() {
+            made = self.part_of(ground, made, depth, &self.path[depth])?;
         }
         Ok(made)
     }
 
     /// What the last look at the node has left, if it was in this search.
     fn take_fresh(&mut self, node: usize) -> Option<(Region, Vec<Step>)> {
-        let hunt = self.hunt;
-        let node = self.tree.nodes.get_mut(node)?;
-        let Fresh { hunt: made, steps } = node.fresh.take()?;
-        if made != hunt {
+        if node >= self.tree.nodes.len() {
             return None;
         }
-        let region = node.region.take()?;
-        Some((Box::into_inner(region), steps))
+        self.tree.nodes[node].take_fresh(self.hunt)
     }
 
     /// Looks at the region of the node; nothing where it has ended.
@@ -431,10 +441,10 @@ impl Search {
 
     /// Is the part of the path's node at this depth against an order that follows above with these pairs placed?
     pub(crate) fn is_contrary(&self, depth: usize, part: usize, placed: &SlotPairs) -> bool {
-        let Some(frame) = self.path.get(depth) else {
+        if depth >= self.path.len() {
             return false;
-        };
-        let Some(branching) = self.tree.branching(frame.node) else {
+        }
+        let Some(branching) = self.tree.branching(self.path[depth].node) else {
             return false;
         };
         if !matches!(branching.decision, Decision::Order(_, _)) {
@@ -450,14 +460,12 @@ impl Search {
 
     /// Takes the next part of the path's node at this depth, if it has one left.
     pub(crate) fn take_part(&mut self, depth: usize) -> Option<usize> {
-        let frame = self.path.get_mut(depth)?;
-        let node = self.tree.node(frame.node)?;
-        let branching = self.tree.branching(frame.node)?;
-        if frame.taken >= branching.count {
+        if depth >= self.path.len() {
             return None;
         }
-        let part = node.part(frame.taken);
-        frame.taken = frame.taken.saturating_add(1);
+        let taken = self.path[depth].taken;
+        let part = self.tree.part_after(self.path[depth].node, taken)?;
+        self.path[depth].taken = taken.saturating_add(1);
         Some(part)
     }
 
@@ -488,18 +496,14 @@ impl Search {
         };
         self.trail.go_back(&frame.mark);
         if self.tree.nodes.len().max(self.many) > MANY_NODES && frame.node != 0 {
-            if let Some(node) = self.tree.nodes.get_mut(frame.node) {
-                node.region = None;
-            }
+            self.tree.forget(frame.node);
         }
     }
 
     /// Each node of the path keeps in which of its parts something was shown.
     fn remember(&mut self) {
         for frame in &self.path {
-            if let Some(node) = self.tree.nodes.get_mut(frame.node) {
-                node.shown = frame.part;
-            }
+            self.tree.set_shown(frame.node, frame.part);
         }
     }
 
@@ -516,11 +520,8 @@ impl Search {
     pub(crate) fn remember_parts(&mut self, parts: &[usize]) {
         let mut number = 0;
         for part in parts {
-            let next = self.tree.part(number, *part);
-            if let Some(node) = self.tree.nodes.get_mut(number) {
-                node.shown = *part;
-            }
-            number = next;
+            self.tree.set_shown(number, *part);
+            number = self.tree.part(number, *part);
         }
     }
 

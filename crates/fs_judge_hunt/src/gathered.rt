@@ -4,7 +4,7 @@ use crate::crew::Left;
 use crate::frames::{Hunted, Search};
 use crate::pieces::Piece;
 use crate::region::Region;
-use crate::tree::Node;
+use crate::tree::{Node, Tree};
 use std::alloc::{AllocError, Global};
 
 /// The pieces, as they come.
@@ -68,30 +68,59 @@ impl Gathering {
         Ok(())
     }
 
-    /// Puts each tree in its place, from the root on. Is one missing?
-    fn put_all(&mut self, search: &mut Search) -> Result<(), AllocError> {
+    /// The tree of this ticket, if it came.
+    fn take_tree(&mut self, ticket: usize) -> Option<Vec<Node>> {
+        if ticket < self.trees.len() {
+            self.trees[ticket].take()
+        } else {
+            None
+        }
+    }
+
+    /// Puts the tree of this ticket in the place of the node. Where it is missing, the hunt isn't at its end.
+    fn put_tree(
+        &mut self,
+        tree: &mut Tree,
+        number: usize,
+        ticket: usize,
+    ) -> Result<(), AllocError> {
+        match self.take_tree(ticket) {
+            Some(moved) => tree.put_back(number, moved),
+            None => {
+                self.is_open = true;
+                Ok(())
+            }
+        }
+    }
+
+    /// Puts each tree in its place, from the root on.
+    fn put_all(&mut self, tree: &mut Tree) -> Result<(), AllocError> {
         for number in 0..usize::MAX {
-            let Some(node) = search.tree.nodes.get_mut(number) else {
+            if number >= tree.nodes.len() {
                 break;
-            };
-            let Some(ticket) = node.given.take() else {
-                continue;
-            };
-            match self.trees.get_mut(ticket) {
-                Some(place) => match place.take() {
-                    Some(tree) => search.tree.put_back(number, tree)?,
-                    None => self.is_open = true,
-                },
-                None => self.is_open = true,
+            }
+            if let Some(ticket) = tree.nodes[number].given.take() {
+                self.put_tree(tree, number, ticket)?;
             }
         }
         Ok(())
     }
+
+    /// What the whole search comes to.
+    fn hunted(&mut self, search: &mut Search) -> Hunted {
+        match self.shown.take() {
+            Some((region, parts)) => {
+                search.remember_parts(&parts);
+                Hunted::Shown(region)
+            }
+            None if self.is_open => Hunted::GaveUp,
+            None => Hunted::Refuted,
+        }
+    }
 }
 
-/// The whole search, with all that was hunted in pieces of it, and what it comes to. Nothing where the whole is missing.
-pub(crate) fn gathered(alloc: Global, left: Left) -> Result<(Option<Search>, Hunted), AllocError> {
-    let Left { pieces, learned } = left;
+/// The pieces, put together.
+fn gathering_of(alloc: Global, pieces: Vec<Piece>) -> Result<Gathering, AllocError> {
     let mut gathering = Gathering {
         whole: None,
         trees: Vec::new(alloc),
@@ -102,19 +131,19 @@ pub(crate) fn gathered(alloc: Global, left: Left) -> Result<(Option<Search>, Hun
     for piece in pieces {
         gathering.take(alloc, piece)?;
     }
+    Ok(gathering)
+}
+
+/// The whole search, with all that was hunted in pieces of it, and what it comes to. Nothing where the whole is missing.
+pub(crate) fn gathered(alloc: Global, left: Left) -> Result<(Option<Search>, Hunted), AllocError> {
+    let Left { pieces, learned } = left;
+    let mut gathering = gathering_of(alloc, pieces)?;
     let Some(mut search) = gathering.whole.take() else {
         return Ok((None, Hunted::GaveUp));
     };
-    gathering.put_all(&mut search)?;
+    gathering.put_all(&mut search.tree)?;
     search.learned = learned;
     search.trail.looks = gathering.looks;
-    let hunted = match gathering.shown.take() {
-        Some((region, parts)) => {
-            search.remember_parts(&parts);
-            Hunted::Shown(region)
-        }
-        None if gathering.is_open => Hunted::GaveUp,
-        None => Hunted::Refuted,
-    };
+    let hunted = gathering.hunted(&mut search);
     Ok((Some(search), hunted))
 }

@@ -47,15 +47,20 @@ pub(crate) fn may_store_often(harts: &[Hart], least: usize) -> bool {
 impl Hart {
     /// The number of the hart's first name.
     pub(crate) fn first(&self) -> u8 {
-        match self.names.first() {
-            Some(name) => name.number,
-            None => 0,
+        if self.names.is_empty() {
+            0
+        } else {
+            self.names[0].number
         }
     }
 
     /// What its runs do at the name.
     pub(crate) fn doing(&self, name: u8) -> Option<&Doing> {
-        let place = name.checked_sub(self.first())?;
-        self.doings.get(usize::from(place))
+        let place = usize::from(name.checked_sub(self.first())?);
+        if place < self.doings.len() {
+            Some(&self.doings[place])
+        } else {
+            None
+        }
     }
 }

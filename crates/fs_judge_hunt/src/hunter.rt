@@ -143,16 +143,16 @@ impl Hunter {
         condition: Condition,
     ) -> Result<Hunter, AllocError> {
         let has_many_stores = may_store_often(&harts, MANY_STORES);
+        let names = copied(alloc, names)?;
+        let words = initial_words(alloc, test)?;
         let known = Runs {
             harts,
-            names: copied(alloc, names)?,
-            words: initial_words(alloc, test)?,
+            names,
+            words,
             has_many_stores,
         };
-        Ok(Hunter {
-            runs: Arc::new(alloc, known)?,
-            condition,
-        })
+        let runs = Arc::new(alloc, known)?;
+        Ok(Hunter { runs, condition })
     }
 
     /// What hunts over another test with the same program, and so the same runs, by its condition over them. In
@@ -300,20 +300,36 @@ impl Hunter {
         let mut slots = Vec::new(alloc);
         let entries = placement.as_slice();
         for place in 0..entries.len() {
-            let entry = &entries[entries.len() - 1 - place];
-            let mut more = borne.copy()?;
-            if more.with(entry.slot, Some(Kind::RwRw)).is_err() {
-                continue;
-            }
-            if let Some(wider) = self.glimpse(alloc, kept, &more)? {
+            let slot = entries[entries.len() - 1 - place].slot;
+            if let Some((more, wider)) = self.wider(alloc, kept, &borne, slot)? {
                 widest = wider;
                 borne = more;
-                slots.push(entry.slot)?;
+                slots.push(slot)?;
             }
         }
         kept.borne = Some(slots);
         kept.looks = looks;
         Ok(widest)
+    }
+
+    /// The placement with `rw,rw` in the slot, and an execution that bears it, if a short hunt finds one.
+    fn wider(
+        &self,
+        alloc: Global,
+        kept: &mut Kept,
+        borne: &Placement,
+        slot: Slot,
+    ) -> Result<Option<(Placement, Execution)>, Fault>
+        ensures err { IsOkUnless result Memory }
+    {
+        let mut more = borne.copy()?;
+        if more.with(slot, Some(Kind::RwRw)).is_err() {
+            return Ok(None);
+        }
+        match self.glimpse(alloc, kept, &more)? {
+            Some(execution) => Ok(Some((more, execution))),
+            None => Ok(None),
+        }
     }
 
     /// An execution that shows the outcome with the placed fences, if a hunt soon finds one.

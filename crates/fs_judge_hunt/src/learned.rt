@@ -135,12 +135,17 @@ impl Learned {
         let mut votes = [0usize; MOST_NAMES];
         for cycle in &self.cycles {
             if let Some(load) = lacking(region, facts, cycle) {
-                if let Some(count) = votes.get_mut(usize::from(load)) {
-                    *count = count.saturating_add(1);
-                }
+                vote(&mut votes, usize::from(load));
             }
         }
         votes
+    }
+}
+
+/// One more for the load.
+fn vote(votes: &mut [usize; MOST_NAMES], load: usize) {
+    if load < MOST_NAMES {
+        votes[load] = votes[load].saturating_add(1);
     }
 }
 

@@ -108,9 +108,11 @@ fn cause(field: Field<'_>, region: &Region, facts: &Facts, first: u8, second: u8
 
 /// The edge behind the one of this place, which is the first behind the last.
 pub(crate) fn edge_after(edges: &[Edge], place: usize) -> Option<&Edge> {
-    match edges.get(place.saturating_add(1)) {
-        Some(edge) => Some(edge),
-        None => edges.first(),
+    let place = place.saturating_add(1);
+    if place < edges.len() {
+        Some(&edges[place])
+    } else {
+        edges.first()
     }
 }
 

@@ -5,7 +5,7 @@ use crate::condition::{Node, Part, Wanted, within};
 use crate::endings::{LastWord, Outlook, Truth};
 use crate::hart::Hart;
 use crate::names::has;
-use crate::rows::{Group, Row, both, join, join_both, leave_out, narrow, no_run, without};
+use crate::rows::{Group, Row, both, copied, join, join_both, leave_out, narrow, no_run, without};
 use std::alloc::{AllocError, Global};
 
 /// The runs of a hart with which a condition may be true, and with which it may be false.
@@ -15,12 +15,22 @@ struct Marks {
     no: Row,
 }
 
+impl Marks {
+    /// The runs with which it may have this truth value.
+    fn runs(&self, truth: bool) -> &[u64] {
+        if truth {
+            self.yes.as_slice()
+        } else {
+            self.no.as_slice()
+        }
+    }
+}
+
 /// No run twice.
 fn blank(alloc: Global, words: usize) -> Result<Marks, AllocError> {
-    Ok(Marks {
-        yes: no_run(alloc, words)?,
-        no: no_run(alloc, words)?,
-    })
+    let yes = no_run(alloc, words)?;
+    let no = no_run(alloc, words)?;
+    Ok(Marks { yes, no })
 }
 
 /// The marks of two parts, put into those of the left one.
@@ -101,10 +111,9 @@ impl Outlook<'_> {
     fn register_marks(&self, alloc: Global, hart: u8, number: usize) -> Result<Marks, AllocError> {
         let row = self.region.row(hart);
         let atom = self.atom_row(number);
-        Ok(Marks {
-            yes: both(alloc, row, atom)?,
-            no: without(alloc, row, atom)?,
-        })
+        let yes = both(alloc, row, atom)?;
+        let no = without(alloc, row, atom)?;
+        Ok(Marks { yes, no })
     }
 
     /// The runs that leave the location as it begins, where those of the other harts may.
@@ -112,8 +121,7 @@ impl Outlook<'_> {
         if self.is_stored_by_others(hart, location) {
             return no_run(alloc, found.words);
         }
-        let mut row = Vec::new(alloc);
-        row.extend_from_slice(self.region.row(hart))?;
+        let mut row = copied(alloc, self.region.row(hart))?;
         for doing in &found.doings {
             drop_stores(&mut row, &doing.stores.places, location);
         }
@@ -202,6 +210,24 @@ impl Outlook<'_> {
         }
     }
 
+    /// Puts the marks of the condition of this number on the stack.
+    fn push_marks(
+        &self,
+        alloc: Global,
+        hart: u8,
+        found: &Hart,
+        stack: &mut Vec<Marks>,
+        number: usize,
+    ) -> Result<(), AllocError> {
+        let nodes: &[Node] = within(self.field.nodes, number);
+        for place in 0..nodes.len() {
+            let place = nodes.len() - 1 - place;
+            let node = (nodes[place].part, number.saturating_add(place));
+            self.step_marks(alloc, hart, found, stack, node)?;
+        }
+        Ok(())
+    }
+
     /// Drops from the hart's runs those with which the wanted condition can't have its truth value.
     fn narrow_by(
         &self,
@@ -211,31 +237,34 @@ impl Outlook<'_> {
         row: &mut [u64],
         wanted: Wanted,
     ) -> Result<(), AllocError> {
-        let nodes: &[Node] = within(self.field.nodes, wanted.node);
         let mut stack = Vec::new(alloc);
-        for place in 0..nodes.len() {
-            let place = nodes.len() - 1 - place;
-            let node = (nodes[place].part, wanted.node.saturating_add(place));
-            self.step_marks(alloc, hart, found, &mut stack, node)?;
+        self.push_marks(alloc, hart, found, &mut stack, wanted.node)?;
+        if let Some(marks) = stack.pop() {
+            narrow(row, marks.runs(wanted.truth));
         }
-        if let Some(Marks { yes, no }) = stack.pop() {
-            if wanted.truth {
-                narrow(row, &yes);
-            } else {
-                narrow(row, &no);
-            }
+        Ok(())
+    }
+
+    /// The same for each wanted condition.
+    fn narrow_by_all(
+        &self,
+        alloc: Global,
+        hart: u8,
+        found: &Hart,
+        row: &mut [u64],
+    ) -> Result<(), AllocError> {
+        for wanted in self.region.wanted.iter() {
+            self.narrow_by(alloc, hart, found, row, *wanted)?;
         }
         Ok(())
     }
 
     /// The hart's runs with each of which every wanted condition may have its truth value.
     pub(crate) fn showing(&self, alloc: Global, hart: u8) -> Result<Row, AllocError> {
-        let mut row = Vec::new(alloc);
-        row.extend_from_slice(self.region.row(hart))?;
-        if let Some(found) = self.field.harts.get(usize::from(hart)) {
-            for wanted in self.region.wanted.iter() {
-                self.narrow_by(alloc, hart, found, &mut row, *wanted)?;
-            }
+        let mut row = copied(alloc, self.region.row(hart))?;
+        let place = usize::from(hart);
+        if place < self.field.harts.len() {
+            self.narrow_by_all(alloc, hart, &self.field.harts[place], &mut row)?;
         }
         Ok(row)
     }

@@ -32,7 +32,12 @@ impl Relation {
 
     /// What the name comes before.
     pub(crate) fn row(&self, first: u8) -> u64 {
-        self.rows.get(usize::from(first)).copied().unwrap_or(0)
+        let first = usize::from(first);
+        if first < MOST_NAMES {
+            self.rows[first]
+        } else {
+            0
+        }
     }
 
     /// Does the first name come before the second?
@@ -47,8 +52,9 @@ impl Relation {
 
     /// Puts the name before each of these.
     pub(crate) fn add_all(&mut self, first: u8, names: u64) {
-        if let Some(row) = self.rows.get_mut(usize::from(first)) {
-            *row |= names;
+        let first = usize::from(first);
+        if first < MOST_NAMES {
+            self.rows[first] |= names;
         }
     }
 
@@ -59,8 +65,9 @@ impl Relation {
 
     /// Takes the pair out.
     pub(crate) fn remove(&mut self, first: u8, second: u8) {
-        if let Some(row) = self.rows.get_mut(usize::from(first)) {
-            *row &= !bit(second);
+        let first = usize::from(first);
+        if first < MOST_NAMES {
+            self.rows[first] &= !bit(second);
         }
     }
 
@@ -78,14 +85,19 @@ impl Relation {
     pub(crate) fn closure(&self, count: u8) -> Relation {
         let mut closed = *self;
         for middle in 0..count {
-            let beyond = closed.row(middle);
-            for row in closed.rows.iter_mut().take(usize::from(count)) {
-                if has(*row, middle) {
-                    *row |= beyond;
-                }
-            }
+            closed.close_through(middle, usize::from(count));
         }
         closed
+    }
+
+    /// Puts what comes before this name before all that comes after it, among the first so many names.
+    fn close_through(&mut self, middle: u8, count: usize) {
+        let beyond = self.row(middle);
+        for first in 0..count.min(MOST_NAMES) {
+            if has(self.rows[first], middle) {
+                self.rows[first] |= beyond;
+            }
+        }
     }
 }
 

@@ -5,8 +5,10 @@ use crate::rows::{do_meet, is_within};
 use fs_kinds::Entry;
 use std::alloc::{AllocError, Global};
 
-/// Pairs at slots, by their places in the placement: four bits for each of 48, as many as a test may have. Of slots
-/// past these nothing is kept.
+/// As many slots as a test may have.
+const MOST_SLOTS: usize = 48;
+
+/// Pairs at slots, by their places in the placement: four bits for each. Of slots past the most nothing is kept.
 #[derive(Clone, Copy)]
 pub(crate) struct SlotPairs {
     words: [u64; 3],
@@ -20,9 +22,8 @@ impl SlotPairs {
 
     /// Puts the pairs at the slot of this place.
     pub(crate) fn put(&mut self, place: usize, pairs: u8) {
-        let shift = 4 * (place % 16) as u32;
-        if let Some(word) = self.words.get_mut(place / 16) {
-            *word |= u64::from(pairs).wrapping_shl(shift);
+        if place < MOST_SLOTS {
+            self.words[place / 16] |= u64::from(pairs).wrapping_shl(4 * (place % 16) as u32);
         }
     }
 

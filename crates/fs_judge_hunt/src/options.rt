@@ -2,7 +2,7 @@
 
 use crate::access::Takes;
 use crate::choose::Chooser;
-use crate::condition::{Part, Wanted, within};
+use crate::condition::{Node, Part, Wanted, within};
 use crate::names::{Origin, bit, has};
 use crate::rows::{do_meet, has_several, is_within};
 use crate::splits::Decision;
@@ -62,6 +62,19 @@ impl Choice {
     }
 }
 
+/// The harts of which these parts of a condition speak: all, where one speaks of a final word.
+fn harts_in(nodes: &[Node]) -> u64 {
+    let mut harts = 0;
+    for node in nodes {
+        match node.part {
+            Part::Register { hart, .. } => harts |= bit(hart),
+            Part::Location { .. } => return u64::MAX,
+            _ => {}
+        }
+    }
+    harts
+}
+
 impl Chooser<'_> {
     /// Has no load a source?
     pub(crate) fn is_undecided(&self) -> bool {
@@ -105,13 +118,7 @@ impl Chooser<'_> {
         let mut harts = 0;
         for wanted in self.region.wanted.iter() {
             let wanted: &Wanted = wanted;
-            for node in within(self.field.nodes, wanted.node) {
-                match node.part {
-                    Part::Register { hart, .. } => harts |= bit(hart),
-                    Part::Location { .. } => return u64::MAX,
-                    _ => {}
-                }
-            }
+            harts |= harts_in(within(self.field.nodes, wanted.node));
         }
         harts
     }
@@ -146,7 +153,8 @@ impl Chooser<'_> {
     /// The split by the name, with how soon it is to be tried.
     fn choice_at(&self, trail: &Trail, votes: &[usize], harts: u64, name: u8) -> Option<Choice> {
         let decision = self.decision_at(name)?;
-        let count = votes.get(usize::from(name)).copied().unwrap_or(0);
+        let place = usize::from(name);
+        let count = if place < votes.len() { votes[place] } else { 0 };
         let (class, place) = if count > 0 {
             (Class::Asked, usize::MAX.saturating_sub(count))
         } else if has(harts, self.field.owner(name)) {

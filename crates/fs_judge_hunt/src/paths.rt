@@ -12,18 +12,21 @@ struct Walk {
 
 impl Walk {
     fn parent(&self, name: u8) -> u8 {
-        self.parents.get(usize::from(name)).copied().unwrap_or(0)
+        let name = usize::from(name);
+        if name < MOST_NAMES {
+            self.parents[name]
+        } else {
+            0
+        }
     }
 
     /// Takes the names that come after this one, and gives those that weren't met before.
     fn extend(&mut self, name: u8, later: u64, count: u8) -> u64 {
         let fresh = later & !self.met;
         self.met |= fresh;
-        for next in 0..count {
-            if has(fresh, next) {
-                if let Some(parent) = self.parents.get_mut(usize::from(next)) {
-                    *parent = name;
-                }
+        for next in 0..usize::from(count).min(MOST_NAMES) {
+            if has(fresh, next as u8) {
+                self.parents[next] = name;
             }
         }
         fresh
@@ -90,9 +93,13 @@ pub(crate) fn way(
 
 /// The name behind the one of this place in a cycle.
 pub(crate) fn name_after(cycle: &[u8], place: usize) -> u8 {
-    match cycle.get(place.saturating_add(1)) {
-        Some(name) => *name,
-        None => cycle.first().copied().unwrap_or(0),
+    let place = place.saturating_add(1);
+    if place < cycle.len() {
+        cycle[place]
+    } else if cycle.is_empty() {
+        0
+    } else {
+        cycle[0]
     }
 }
 

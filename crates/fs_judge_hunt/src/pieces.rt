@@ -52,9 +52,11 @@ impl Piece {
 impl Search {
     /// The mark of what is known in the parts of the path's node at this depth.
     fn mark_below(&self, depth: usize) -> Mark {
-        match self.path.get(depth.saturating_add(1)) {
-            Some(frame) => frame.mark,
-            None => self.trail.mark(),
+        let depth = depth.saturating_add(1);
+        if depth < self.path.len() {
+            self.path[depth].mark
+        } else {
+            self.trail.mark()
         }
     }
 
@@ -62,12 +64,8 @@ impl Search {
     /// that is kept.
     fn spine(&self, alloc: Global, depth: usize) -> Result<Tree, AllocError> {
         let mut nodes = Vec::new(alloc);
-        for frame in self.path.iter().take(depth.saturating_add(1)) {
-            let mut node = Node::new(alloc);
-            if let Some(known) = self.tree.node(frame.node) {
-                node.copy_split(known)?;
-            }
-            nodes.push(node)?;
+        for place in 0..depth.saturating_add(1).min(self.path.len()) {
+            nodes.push(self.tree.bare(alloc, self.path[place].node)?)?;
         }
         let mut tree = Tree {
             nodes,
@@ -80,13 +78,13 @@ impl Search {
     /// Copies the last region of the path's nodes down to this depth that is kept.
     fn copy_region(&self, alloc: Global, tree: &mut Tree, depth: usize) -> Result<(), AllocError> {
         let above = self.kept_above(depth.saturating_add(1));
-        let Some(frame) = self.path.get(above) else {
+        if above >= self.path.len() {
             return Ok(());
-        };
-        if let Some(region) = self.tree.region(frame.node) {
-            tree.keep(alloc, above, region.copy(alloc)?)?;
         }
-        Ok(())
+        match self.tree.region(self.path[above].node) {
+            Some(region) => tree.keep(alloc, above, region.copy(alloc)?),
+            None => Ok(()),
+        }
     }
 
     /// The path down to this depth, and there into this part.
@@ -98,8 +96,12 @@ impl Search {
         mark: Mark,
     ) -> Result<Vec<Frame>, AllocError> {
         let mut path = Vec::new(alloc);
-        for (number, frame) in self.path.iter().take(depth.saturating_add(1)).enumerate() {
-            let part = if number == depth { part } else { frame.part };
+        for number in 0..depth.saturating_add(1).min(self.path.len()) {
+            let part = if number == depth {
+                part
+            } else {
+                self.path[number].part
+            };
             path.push(Frame {
                 node: number,
                 taken: usize::MAX,
@@ -149,17 +151,15 @@ impl Search {
     /// The next part of the path's node at this depth that isn't known to have ended with these pairs placed, and its
     /// node.
     fn open_part(&mut self, depth: usize, placed: &SlotPairs) -> Option<(usize, usize)> {
-        let frame = self.path.get(depth)?;
-        let node = frame.node;
+        if depth >= self.path.len() {
+            return None;
+        }
+        let node = self.path[depth].node;
         let count = self.tree.branching(node)?.count;
         for _ in 0..count {
             let part = self.take_part(depth)?;
             let number = self.tree.part(node, part);
-            let has_ended = match self.tree.node(number) {
-                Some(known) => known.leaf(placed).is_some(),
-                None => true,
-            };
-            if !has_ended && !self.is_contrary(depth, part, placed) {
+            if !self.tree.has_ended(number, placed) && !self.is_contrary(depth, part, placed) {
                 return Some((part, number));
             }
         }
@@ -174,9 +174,7 @@ impl Search {
             };
             let search = self.part_search(ground.alloc, depth, part, number)?;
             let ticket = others.ticket();
-            if let Some(node) = self.tree.nodes.get_mut(number) {
-                node.given = Some(ticket);
-            }
+            self.tree.set_given(number, ticket);
             self.given = self.trail.looks;
             return others.give(Piece {
                 ticket: Some(ticket),

@@ -5,7 +5,7 @@ use crate::condition::{Node, Wanted};
 use crate::hart::Hart;
 use crate::names::{MOST_NAMES, Origin, Relation};
 use crate::needs::Fences;
-use crate::rows::{Row, are_same, both, is_empty, is_within};
+use crate::rows::{Row, are_same, both, do_meet, is_empty, is_within};
 use crate::rules::Rule;
 use crate::sum::{Left, left_with};
 use fs_kinds::{List, OperationName};
@@ -62,14 +62,21 @@ impl<'a> Field<'a> {
 
     /// The name of this number.
     pub(crate) fn name(&self, number: u8) -> OperationName {
-        self.names
-            .get(usize::from(number))
-            .copied()
-            .unwrap_or(OperationName { hart: 255, at: 255 })
+        let number = usize::from(number);
+        if number < self.names.len() {
+            self.names[number]
+        } else {
+            OperationName { hart: 255, at: 255 }
+        }
     }
 
     pub(crate) fn hart_of(&self, name: u8) -> Option<&'a Hart> {
-        self.harts.get(usize::from(self.owner(name)))
+        let owner = usize::from(self.owner(name));
+        if owner < self.harts.len() {
+            Some(&self.harts[owner])
+        } else {
+            None
+        }
     }
 
     /// What the runs of its hart do at the name.
@@ -79,23 +86,12 @@ impl<'a> Field<'a> {
 
     /// The rows of rule 4 in this hart.
     pub(crate) fn fenced_in(&self, hart: u8) -> &'a [Rule] {
-        match self.fenced.get(usize::from(hart)) {
-            Some(rules) => rules.as_slice(),
-            None => &[],
+        let hart = usize::from(hart);
+        if hart < self.fenced.len() {
+            self.fenced[hart].as_slice()
+        } else {
+            &[]
         }
-    }
-
-    /// These runs of the hart of this number.
-    fn left(
-        &self,
-        alloc: Global,
-        hart: u8,
-        row: Vec<u64>,
-    ) -> Result<Option<Arc<Left>>, AllocError> {
-        let Some(found) = self.harts.get(usize::from(hart)) else {
-            return Ok(None);
-        };
-        Ok(Some(shared_left(alloc, found, row)?))
     }
 
     /// All runs of each hart; nothing where some hart has none.
@@ -137,64 +133,80 @@ fn share(alloc: Global, left: &[Arc<Left>]) -> Result<Vec<Arc<Left>>, AllocError
 impl Region {
     /// The same region.
     pub(crate) fn copy(&self, alloc: Global) -> Result<Region, AllocError> {
+        let wanted = Arc::try_clone(&self.wanted)?;
+        let left = share(alloc, &self.left)?;
         Ok(Region {
-            left: share(alloc, &self.left)?,
+            left,
             origins: self.origins,
             before: self.before,
-            wanted: Arc::try_clone(&self.wanted)?,
+            wanted,
         })
     }
 
     /// What is left of the hart.
     pub(crate) fn left(&self, hart: u8) -> Option<&Left> {
-        match self.left.get(usize::from(hart)) {
-            Some(left) => Some(&**left),
-            None => None,
+        let hart = usize::from(hart);
+        if hart < self.left.len() {
+            Some(&*self.left[hart])
+        } else {
+            None
         }
     }
 
     /// The runs that are left of the hart.
     pub(crate) fn row(&self, hart: u8) -> &[u64] {
-        match self.left(hart) {
-            Some(left) => left.row.as_slice(),
-            None => &[],
+        let hart = usize::from(hart);
+        if hart < self.left.len() {
+            self.left[hart].row.as_slice()
+        } else {
+            &[]
         }
     }
 
     /// What the load returns from.
     pub(crate) fn origin(&self, load: u8) -> Origin {
-        self.origins
-            .get(usize::from(load))
-            .copied()
-            .unwrap_or(Origin::Unknown)
-    }
-
-    pub(crate) fn set_origin(&mut self, load: u8, origin: Origin) {
-        if let Some(known) = self.origins.get_mut(usize::from(load)) {
-            *known = origin;
+        let load = usize::from(load);
+        if load < MOST_NAMES {
+            self.origins[load]
+        } else {
+            Origin::Unknown
         }
     }
 
-    /// Leaves only these of the hart's runs, which are among those that are left. Is one left?
+    pub(crate) fn set_origin(&mut self, load: u8, origin: Origin) {
+        let load = usize::from(load);
+        if load < MOST_NAMES {
+            self.origins[load] = origin;
+        }
+    }
+
+    /// Puts these runs in the place of the hart's.
+    fn put(
+        &mut self,
+        alloc: Global,
+        field: Field<'_>,
+        hart: u8,
+        row: Vec<u64>,
+    ) -> Result<(), AllocError> {
+        let hart = usize::from(hart);
+        if hart < self.left.len() && hart < field.harts.len() {
+            self.left[hart] = shared_left(alloc, &field.harts[hart], row)?;
+        }
+        Ok(())
+    }
+
+    /// Leaves only these of the hart's runs, at least one, which are among those that are left.
     pub(crate) fn keep(
         &mut self,
         alloc: Global,
         field: Field<'_>,
         hart: u8,
         row: Vec<u64>,
-    ) -> Result<bool, AllocError> {
-        if is_empty(&row) {
-            return Ok(false);
-        }
+    ) -> Result<(), AllocError> {
         if are_same(&row, self.row(hart)) {
-            return Ok(true);
+            return Ok(());
         }
-        if let Some(left) = field.left(alloc, hart, row)? {
-            if let Some(place) = self.left.get_mut(usize::from(hart)) {
-                *place = left;
-            }
-        }
-        Ok(true)
+        self.put(alloc, field, hart, row)
     }
 
     /// The region with only those of the hart's runs that are in the row, if one is.
@@ -205,12 +217,11 @@ impl Region {
         hart: u8,
         row: &[u64],
     ) -> Result<Option<Region>, AllocError> {
-        let kept = both(alloc, self.row(hart), row)?;
-        if is_empty(&kept) {
+        if !do_meet(self.row(hart), row) {
             return Ok(None);
         }
         let mut region = self.copy(alloc)?;
-        region.keep(alloc, field, hart, kept)?;
+        region.keep(alloc, field, hart, both(alloc, self.row(hart), row)?)?;
         Ok(Some(region))
     }
 

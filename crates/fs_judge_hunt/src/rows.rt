@@ -18,17 +18,25 @@ pub fn no_run(alloc: Global, words: usize) -> Result<Row, AllocError> {
     Ok(row)
 }
 
+/// The same runs.
+pub(crate) fn copied(alloc: Global, row: &[u64]) -> Result<Row, AllocError> {
+    let mut copy = Vec::new(alloc);
+    copy.extend_from_slice(row)?;
+    Ok(copy)
+}
+
 /// Puts the run of this number into the row.
 pub fn put(row: &mut [u64], run: usize) {
-    if let Some(word) = row.get_mut(run / 64) {
-        *word |= 1u64.wrapping_shl((run % 64) as u32);
+    let place = run / 64;
+    if place < row.len() {
+        row[place] |= 1u64.wrapping_shl((run % 64) as u32);
     }
 }
 
 /// Is the run of this number in the row?
 pub(crate) fn has_run(row: &[u64], run: usize) -> bool {
-    let word = row.get(run / 64).copied().unwrap_or(0);
-    word.wrapping_shr((run % 64) as u32) & 1 != 0
+    let place = run / 64;
+    place < row.len() && row[place].wrapping_shr((run % 64) as u32) & 1 != 0
 }
 
 /// Has it no run?
@@ -77,10 +85,9 @@ pub(crate) fn are_same(row: &[u64], other: &[u64]) -> bool {
 
 /// The runs of this one that are among the other's, of which these bits are flipped.
 fn meeting(alloc: Global, row: &[u64], other: &[u64], flipped: u64) -> Result<Row, AllocError> {
-    let mut made = Vec::new(alloc);
-    for place in 0..row.len().min(other.len()) {
-        made.push(row[place] & (other[place] ^ flipped))?;
-    }
+    let mut made = copied(alloc, row)?;
+    made.truncate(other.len());
+    mask(&mut made, other, flipped);
     Ok(made)
 }
 

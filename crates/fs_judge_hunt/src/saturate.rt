@@ -159,19 +159,32 @@ impl Round<'_> {
     ) -> Result<Ending, AllocError> {
         let mut edges = Vec::new(self.alloc);
         let mut used = Pairs::new(self.alloc);
+        self.push_edges(&mut edges, &mut used, region, names, closing)?;
+        Ok(Ending {
+            clash: Clash::Cycle(edges),
+            used,
+        })
+    }
+
+    /// Adds its edges, and what they rest on.
+    fn push_edges(
+        self,
+        edges: &mut Vec<Edge>,
+        used: &mut Pairs,
+        region: &Region,
+        names: &[u8],
+        closing: Option<Cause>,
+    ) -> Result<(), AllocError> {
         for (place, name) in names.iter().enumerate() {
             let is_last = place.saturating_add(1) == names.len();
             let next = name_after(names, place);
             let edge = match closing {
                 Some(cause) if is_last => Edge { name: *name, cause },
-                _ => Edge::found(self.field, region, &self.view.facts, &mut used, *name, next)?,
+                _ => Edge::found(self.field, region, &self.view.facts, used, *name, next)?,
             };
             edges.push(edge)?;
         }
-        Ok(Ending {
-            clash: Clash::Cycle(edges),
-            used,
-        })
+        Ok(())
     }
 
     /// Ends where the outcome can't be.

@@ -5,7 +5,7 @@ use crate::endings::Outlook;
 use crate::facts::Facts;
 use crate::names::{Origin, has};
 use crate::region::{Field, Region};
-use crate::rows::{Row, do_meet, is_empty, join_both, no_run, without};
+use crate::rows::{Group, Row, do_meet, is_empty, join_both, no_run, without};
 use fs_cert_evidence::Inference;
 use std::alloc::{AllocError, Global};
 
@@ -65,6 +65,15 @@ impl Agreeing {
             join_both(&mut self.storing, others, stores);
         }
     }
+
+    /// Adds those of each class that is among both.
+    fn add_classes(&mut self, left: &[u64], loads: &[Group], others: &[u64], stores: &[Group]) {
+        for class in loads {
+            if let Some(other) = class_of(stores, class.key) {
+                self.add_class(left, &class.row, others, &other.row);
+            }
+        }
+    }
 }
 
 /// The runs in which the load has the address and the word of the hart's store.
@@ -85,12 +94,25 @@ impl Splitter<'_> {
         facts: &Facts,
         decision: Decision,
     ) -> Result<Vec<Region>, AllocError> {
+        let mut left = Vec::new(self.alloc);
+        self.push_children(&mut left, region, facts, decision)?;
+        Ok(left)
+    }
+
+    /// Adds them.
+    fn push_children(
+        self,
+        left: &mut Vec<Region>,
+        region: &Region,
+        facts: &Facts,
+        decision: Decision,
+    ) -> Result<(), AllocError> {
         match decision {
-            Decision::Choice(name) => self.by_choice(region, name),
-            Decision::Source(load) => self.by_source(region, facts, load),
-            Decision::Order(first, second) => self.by_order(region, first, second),
-            Decision::Cases(number) => self.by_cases(region, number),
-            Decision::Filter(hart) => self.by_outcome(region, facts, hart),
+            Decision::Choice(name) => self.push_choices(left, region, name),
+            Decision::Source(load) => self.push_sources(left, region, facts, load),
+            Decision::Order(first, second) => self.push_orders(left, region, first, second),
+            Decision::Cases(number) => self.push_cases(left, region, number),
+            Decision::Filter(hart) => self.push_outcome(left, region, facts, hart),
         }
     }
 
@@ -104,15 +126,19 @@ impl Splitter<'_> {
         self.children(region, &facts, decision)
     }
 
-    fn by_choice(self, region: &Region, name: u8) -> Result<Vec<Region>, AllocError> {
-        let mut left = Vec::new(self.alloc);
+    fn push_choices(
+        self,
+        left: &mut Vec<Region>,
+        region: &Region,
+        name: u8,
+    ) -> Result<(), AllocError> {
         let hart = self.field.owner(name);
         if let Some(doing) = self.field.doing(name) {
             for group in &doing.choices {
-                self.push_with(&mut left, region, hart, &group.row)?;
+                self.push_with(left, region, hart, &group.row)?;
             }
         }
-        Ok(left)
+        Ok(())
     }
 
     /// Adds the region with only those of the hart's runs that are in the row, if one is.
@@ -127,19 +153,19 @@ impl Splitter<'_> {
         push_some(left, some)
     }
 
-    fn by_source(
+    fn push_sources(
         self,
+        left: &mut Vec<Region>,
         region: &Region,
         facts: &Facts,
         load: u8,
-    ) -> Result<Vec<Region>, AllocError> {
-        let mut left = Vec::new(self.alloc);
+    ) -> Result<(), AllocError> {
         if let Some(doing) = self.field.doing(load) {
-            self.push_idle(&mut left, region, load, doing)?;
-            self.push_initial(&mut left, region, load, doing)?;
-            self.push_stored(&mut left, region, load, facts.may_store)?;
+            self.push_idle(left, region, load, doing)?;
+            self.push_initial(left, region, load, doing)?;
+            self.push_stored(left, region, load, facts.may_store)?;
         }
-        Ok(left)
+        Ok(())
     }
 
     /// Adds the candidates in which the load isn't executed.
@@ -184,11 +210,22 @@ impl Splitter<'_> {
         for store in 0..self.field.count {
             let is_left = known == Origin::Unknown || known == Origin::From(store);
             if is_left && has(stores, store) {
-                let some = self.from_store(region, load, store)?;
-                push_some(left, returning(some, load, Origin::From(store)))?;
+                self.push_from(left, region, load, store)?;
             }
         }
         Ok(())
+    }
+
+    /// Adds those in which it returns from this store.
+    fn push_from(
+        self,
+        left: &mut Vec<Region>,
+        region: &Region,
+        load: u8,
+        store: u8,
+    ) -> Result<(), AllocError> {
+        let some = self.from_store(region, load, store)?;
+        push_some(left, returning(some, load, Origin::From(store)))
     }
 
     /// The candidates in which the load agrees with the store.
@@ -215,18 +252,21 @@ impl Splitter<'_> {
         store: u8,
     ) -> Result<Option<Region>, AllocError> {
         let mut agreeing = self.no_runs(load, store)?;
-        let (Some(loading), Some(storing)) = (self.field.doing(load), self.field.doing(store))
-        else {
-            return Ok(None);
-        };
+        self.add_agreeing(&mut agreeing, region, load, store);
         let (hart, other) = (self.field.owner(load), self.field.owner(store));
-        let (left, others) = (region.row(hart), region.row(other));
-        for class in &loading.loads.classes {
-            if let Some(stores) = class_of(&storing.stores.classes, class.key) {
-                agreeing.add_class(left, &class.row, others, &stores.row);
+        self.with_agreeing(region, hart, other, agreeing)
+    }
+
+    /// Adds the runs in which the load agrees with the store of another hart.
+    fn add_agreeing(self, agreeing: &mut Agreeing, region: &Region, load: u8, store: u8) {
+        let left = region.row(self.field.owner(load));
+        let others = region.row(self.field.owner(store));
+        if let Some(loading) = self.field.doing(load) {
+            if let Some(storing) = self.field.doing(store) {
+                let stores = &storing.stores.classes;
+                agreeing.add_classes(left, &loading.loads.classes, others, stores);
             }
         }
-        self.with_agreeing(region, hart, other, agreeing)
     }
 
     fn no_runs(self, load: u8, store: u8) -> Result<Agreeing, AllocError> {
@@ -261,11 +301,15 @@ impl Splitter<'_> {
         Ok(Some(smaller))
     }
 
-    fn by_order(self, region: &Region, first: u8, second: u8) -> Result<Vec<Region>, AllocError> {
-        let mut left = Vec::new(self.alloc);
-        self.push_ordered(&mut left, region, first, second)?;
-        self.push_ordered(&mut left, region, second, first)?;
-        Ok(left)
+    fn push_orders(
+        self,
+        left: &mut Vec<Region>,
+        region: &Region,
+        first: u8,
+        second: u8,
+    ) -> Result<(), AllocError> {
+        self.push_ordered(left, region, first, second)?;
+        self.push_ordered(left, region, second, first)
     }
 
     /// Adds the region in which the first store comes before the second.
@@ -282,21 +326,20 @@ impl Splitter<'_> {
         Ok(())
     }
 
-    fn by_outcome(
+    fn push_outcome(
         self,
+        left: &mut Vec<Region>,
         region: &Region,
         facts: &Facts,
         hart: u8,
-    ) -> Result<Vec<Region>, AllocError> {
+    ) -> Result<(), AllocError> {
         let outlook = Outlook {
             field: self.field,
             region,
             facts,
         };
         let row = outlook.showing(self.alloc, hart)?;
-        let mut left = Vec::new(self.alloc);
-        self.push_with(&mut left, region, hart, &row)?;
-        Ok(left)
+        self.push_with(left, region, hart, &row)
     }
 }
 

@@ -76,8 +76,9 @@ fn place_in(access: &Access, row: &[u64]) -> u8 {
 }
 
 fn set_at(places: &mut [u8], name: u8, location: u8) {
-    if let Some(place) = places.get_mut(usize::from(name)) {
-        *place = location;
+    let name = usize::from(name);
+    if name < places.len() {
+        places[name] = location;
     }
 }
 

@@ -178,11 +178,8 @@ impl Trail {
     /// How many regions the decision left open, when it was last tried; the most, if it wasn't. Filters come first.
     pub(crate) fn open(&self, decision: Decision) -> usize {
         match decision.name() {
-            Some(name) => self
-                .open
-                .get(usize::from(name))
-                .copied()
-                .unwrap_or(usize::MAX),
+            Some(name) if usize::from(name) < MOST_NAMES => self.open[usize::from(name)],
+            Some(_) => usize::MAX,
             None => 0,
         }
     }
@@ -190,8 +187,9 @@ impl Trail {
     /// The decision leaves so many open.
     pub(crate) fn set_open(&mut self, decision: Decision, open: usize) {
         if let Some(name) = decision.name() {
-            if let Some(known) = self.open.get_mut(usize::from(name)) {
-                *known = open;
+            let name = usize::from(name);
+            if name < MOST_NAMES {
+                self.open[name] = open;
             }
         }
     }
@@ -200,8 +198,8 @@ impl Trail {
     pub(crate) fn copy_of(&self, alloc: Global, mark: &Mark) -> Result<Trail, AllocError> {
         let mut copy = Trail::new(alloc);
         copy.open = mark.open;
-        for ended in self.ended.iter().take(mark.ended) {
-            copy.add(ended.branch, &ended.dead)?;
+        for place in 0..mark.ended.min(self.ended.len()) {
+            copy.add(self.ended[place].branch, &self.ended[place].dead)?;
         }
         Ok(copy)
     }

@@ -151,12 +151,20 @@ impl Node {
     /// Keeps what ends it.
     pub(crate) fn add_leaf(&mut self, leaf: Leaf) -> Result<(), AllocError> {
         if self.leaves.len() >= MOST_LEAVES {
-            self.leaves.reverse();
-            self.leaves.pop();
-            self.leaves.reverse();
+            self.leaves.remove(0);
         }
         self.leaves.push(leaf)?;
         Ok(())
+    }
+
+    /// What the last look at it has left, if it was in this hunt.
+    pub(crate) fn take_fresh(&mut self, hunt: usize) -> Option<(Region, Vec<Step>)> {
+        let fresh = self.fresh.take()?;
+        if fresh.hunt != hunt {
+            return None;
+        }
+        let region = self.region.take()?;
+        Some((Box::into_inner(region), fresh.steps))
     }
 
     /// It is split as the other one is, but has no parts.
@@ -270,17 +278,33 @@ impl Tree {
     }
 
     pub(crate) fn branching(&self, number: usize) -> Option<&Branching> {
-        match &self.nodes.get(number)?.branching {
-            Some(branching) => Some(&**branching),
-            None => None,
+        if number < self.nodes.len() {
+            if let Some(branching) = &self.nodes[number].branching {
+                return Some(&**branching);
+            }
         }
+        None
     }
 
     /// The region of the node, if it is kept.
     pub(crate) fn region(&self, number: usize) -> Option<&Region> {
-        match &self.nodes.get(number)?.region {
-            Some(region) => Some(&**region),
-            None => None,
+        if number < self.nodes.len() {
+            if let Some(region) = &self.nodes[number].region {
+                return Some(&**region);
+            }
+        }
+        None
+    }
+
+    /// A copy of the region of the node, if it is kept.
+    pub(crate) fn copy_of(
+        &self,
+        alloc: Global,
+        number: usize,
+    ) -> Result<Option<Region>, AllocError> {
+        match self.region(number) {
+            Some(region) => Ok(Some(region.copy(alloc)?)),
+            None => Ok(None),
         }
     }
 
@@ -292,18 +316,63 @@ impl Tree {
         region: Region,
     ) -> Result<(), AllocError> {
         let region = Box::new(alloc, region)?;
-        if let Some(node) = self.nodes.get_mut(number) {
-            node.region = Some(region);
+        if number < self.nodes.len() {
+            self.nodes[number].region = Some(region);
         }
         Ok(())
     }
 
+    /// A node that is split as the one of this number is, but of which nothing else is known.
+    pub(crate) fn bare(&self, alloc: Global, number: usize) -> Result<Node, AllocError> {
+        let mut node = Node::new(alloc);
+        if number < self.nodes.len() {
+            node.copy_split(&self.nodes[number])?;
+        }
+        Ok(node)
+    }
+
+    /// Has the node ended with these pairs placed, or is it missing?
+    pub(crate) fn has_ended(&self, number: usize, placed: &SlotPairs) -> bool {
+        number >= self.nodes.len() || self.nodes[number].leaf(placed).is_some()
+    }
+
+    /// The piece with this ticket has all below the node.
+    pub(crate) fn set_given(&mut self, number: usize, ticket: usize) {
+        if number < self.nodes.len() {
+            self.nodes[number].given = Some(ticket);
+        }
+    }
+
+    /// The region of the node isn't kept any more.
+    pub(crate) fn forget(&mut self, number: usize) {
+        if number < self.nodes.len() {
+            self.nodes[number].region = None;
+        }
+    }
+
+    /// The node keeps that something was shown in this part.
+    pub(crate) fn set_shown(&mut self, number: usize, part: usize) {
+        if number < self.nodes.len() {
+            self.nodes[number].shown = part;
+        }
+    }
+
     /// The node of this part of the node.
     pub(crate) fn part(&self, number: usize, part: usize) -> usize {
-        match self.nodes.get(number) {
-            Some(node) => node.first.saturating_add(part),
-            None => usize::MAX,
+        if number < self.nodes.len() {
+            self.nodes[number].first.saturating_add(part)
+        } else {
+            usize::MAX
         }
+    }
+
+    /// The part of the node that is looked through after so many others, if it has more.
+    pub(crate) fn part_after(&self, number: usize, taken: usize) -> Option<usize> {
+        let branching = self.branching(number)?;
+        if taken < branching.count && number < self.nodes.len() {
+            return Some(self.nodes[number].part(taken));
+        }
+        None
     }
 
     /// Moves so many nodes behind these. What is left in their place knows nothing.

@@ -1,7 +1,7 @@
 //! Which pairs of stores, one earlier in coherence order, an inference rests on.
 
 use crate::access::Place;
-use crate::condition::{Part, Wanted, within};
+use crate::condition::{Node, Part, Wanted, within};
 use crate::endings::Outlook;
 use crate::facts::Facts;
 use crate::names::{Origin, Pairs, Relation, bit, has};
@@ -42,10 +42,17 @@ fn asked(outlook: &Outlook<'_>) -> u64 {
     let mut locations = 0;
     for wanted in outlook.region.wanted.iter() {
         let wanted: &Wanted = wanted;
-        for node in within(outlook.field.nodes, wanted.node) {
-            if let Part::Location { location, .. } = node.part {
-                locations |= bit(location);
-            }
+        locations |= locations_in(within(outlook.field.nodes, wanted.node));
+    }
+    locations
+}
+
+/// Those of which these parts of a condition speak.
+fn locations_in(nodes: &[Node]) -> u64 {
+    let mut locations = 0;
+    for node in nodes {
+        if let Part::Location { location, .. } = node.part {
+            locations |= bit(location);
         }
     }
     locations
