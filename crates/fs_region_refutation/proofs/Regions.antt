@@ -17,7 +17,7 @@ use Rattle.fs_cert_evidence.specs.Splits.{keep, with_source, with_order, with_wa
 use Rattle.fs_region_runs.specs.Alone.{RunOf, source_of}
 use Rattle.fs_region_refutation.specs.declared.region.Sourced.{Sourced}
 use Rattle.fs_region_refutation.specs.declared.region.Region.{Region as CodeRegion}
-use Rattle.fs_region_refutation.specs.Views.{region_of, runs_of, at_hart, list_at, lists_in, source_in, source_after, is_in_order, all_wanted, with_runs, IsOf, AreRunsOf}
+use Rattle.fs_region_refutation.specs.Views.{region_of, runs_of, at_hart, list_at, lists_in, source_in, source_after, is_in_order, all_wanted, with_runs, Shares, IsOf, AreRunsOf}
 use Rattle.fs_verdict_laws.proofs.Names.{name_is}
 use Rattle.fs_region_refutation.proofs.Lists.{filter_seen}
 
@@ -50,12 +50,6 @@ seen_if false xs ys = refl
 of_if : (t : Test) (h : ℕ) (b : Bool) (xs ys : List (Bor RunOf)) → (b ≡ true → AreRunsOf t h xs) → AreRunsOf t h ys → AreRunsOf t h (if b then xs else ys)
 of_if t h true xs ys first other = first refl
 of_if t h false xs ys first other = other
-
--- two regions share all but runs
-pub record Shares (old new : CodeRegion) : Type 0 where
-  pub sources : arc_value new.sources ≡ arc_value old.sources
-  pub orders : arc_value new.orders ≡ arc_value old.orders
-  pub wanted : arc_value new.wanted ≡ arc_value old.wanted
 
 module _ (old new : CodeRegion) (shares : Shares old new) where
   pub same_runs : lists_in new.runs.items ≡ lists_in old.runs.items → region_of new ≡ region_of old

@@ -74,6 +74,12 @@ region_of region = record {
   wanted = all_wanted (arc_value region.wanted);
 }
 
+-- two regions share all but runs
+pub record Shares (old new : CodeRegion) : Type 0 where
+  pub sources : arc_value new.sources ≡ arc_value old.sources
+  pub orders : arc_value new.orders ≡ arc_value old.orders
+  pub wanted : arc_value new.wanted ≡ arc_value old.wanted
+
 abbrev pub regions_of : List CodeRegion → List Region
 regions_of = map region_of
 

@@ -67,8 +67,12 @@ fn any_stores_such(runs: &[&Lone], name: OperationName, location: u8, ending: En
     ensures { result ≡ list_any (stores_such location (is_ending ending) name)
         (runs_of runs.now) }
 {
-    runs.iter()
-        .any(|run| stores_such(run, name, location, ending))
+    for run in runs {
+        if stores_such(run, name, location, ending) {
+            return true;
+        }
+    }
+    false
 }
 
 /// The word that the location begins with.
@@ -85,7 +89,12 @@ fn initial_word(basis: &Basis, location: u8) -> u32
 fn must_be_stored(basis: &Basis, region: &Region<'_>, names: &[OperationName], location: u8) -> bool
     ensures { result ≡ list_any (λ a. must_be basis.now (region_of region.now) stored_at a location) names.now }
 {
-    names.iter().any(|name| must_be(basis, region, Access::Store, *name, location))
+    for name in names {
+        if must_be(basis, region, Access::Store, *name, location) {
+            return true;
+        }
+    }
+    false
 }
 
 /// May the location keep such a word from its beginning, whatever is stored under other names than these?
@@ -108,7 +117,12 @@ fn may_be_stored(region: &Region<'_>, names: &[OperationName], location: u8, end
     ensures { result ≡ list_any (λ a. list_any (stores_such location (is_ending ending) a)
         ((region_of region.now).runs a.hart)) names.now }
 {
-    names.iter().any(|name| any_stores_such(region.runs(name.hart), *name, location, ending))
+    for name in names {
+        if any_stores_such(region.runs(name.hart), *name, location, ending) {
+            return true;
+        }
+    }
+    false
 }
 
 /// Is the location marked?
@@ -144,18 +158,24 @@ fn stores_under(basis: &Basis, run: &Lone, name: OperationName, location: u8) ->
 fn stores_at(basis: &Basis, run: &Lone, names: &[OperationName], location: u8) -> bool
     ensures { result ≡ list_any (stores_under basis.now location run.now.steps) names.now }
 {
-    names
-        .iter()
-        .any(|name| stores_under(basis, run, *name, location))
+    for name in names {
+        if stores_under(basis, run, *name, location) {
+            return true;
+        }
+    }
+    false
 }
 
 /// Does it store such a word there under one of the names?
 fn stores_some(run: &Lone, names: &[OperationName], location: u8, ending: Ending) -> bool
     ensures { result ≡ list_any (λ a. stores_such location (is_ending ending) a run.now.steps) names.now }
 {
-    names
-        .iter()
-        .any(|name| stores_such(run, *name, location, ending))
+    for name in names {
+        if stores_such(run, *name, location, ending) {
+            return true;
+        }
+    }
+    false
 }
 
 /// May the location end with such a word by what the run does?
@@ -344,6 +364,27 @@ fn has_many(basis: &Basis, region: &Region<'_>) -> bool {
     atoms / 2 > basis.test().locations.len()
 }
 
+/// With which runs of the hart of these names may each wanted condition have its truth value?
+fn may_all_under(
+    alloc: Global,
+    basis: &Basis,
+    region: &Region<'_>,
+    names: &Names,
+) -> Result<Vec<bool>, AllocError>
+    requires of { IsOf basis.now region.now }
+    requires names { AreNames basis.now (region_of region.now) names.now }
+    ensures { IfOk result (λ marks. marks.items
+        ≡ map (may_all_with basis.now names.now.hart (region_of region.now) (region_of region.now).wanted)
+        ((region_of region.now).runs names.now.hart)) }
+{
+    let mut marks = same_each(alloc, region.runs(names.hart), true)?;
+    for wanted in region.wanted.iter() {
+        let more = may_each(alloc, basis, region, names, wanted.condition, wanted.truth)?;
+        marks = joined(alloc, &marks, &more, true)?;
+    }
+    Ok(marks)
+}
+
 /// With which runs of the hart may each wanted condition have its truth value?
 pub(crate) fn may_all_each(
     alloc: Global,
@@ -357,10 +398,6 @@ pub(crate) fn may_all_each(
         ((region_of region.now).runs hart)) }
 {
     let names = parted_names(alloc, basis, region, hart, has_many(basis, region))?;
-    let mut marks = same_each(alloc, region.runs(hart), true)?;
-    for wanted in region.wanted.iter() {
-        let more = may_each(alloc, basis, region, &names, wanted.condition, wanted.truth)?;
-        marks = joined(alloc, &marks, &more, true)?;
-    }
+    let marks = may_all_under(alloc, basis, region, &names)?;
     Ok(marks)
 }

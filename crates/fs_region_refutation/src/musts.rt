@@ -44,7 +44,12 @@ pub(crate) fn accesses(run: &Lone, access: Access, at: u8, location: u8) -> bool
 fn all_access(runs: &[&Lone], access: Access, at: u8, location: u8) -> bool
     ensures { result ≡ list_all (accesses_at (access_of access) at location) (runs_of runs.now) }
 {
-    runs.iter().all(|run| accesses(run, access, at, location))
+    for run in runs {
+        if !accesses(run, access, at, location) {
+            return false;
+        }
+    }
+    true
 }
 
 /// Must the operation be executed, and access the location? At most linear in the runs of its hart.

@@ -4,7 +4,7 @@ ghost use Rattle.std.specs.Prelude.{◌≡◌, filter, IfOk};
 ghost use Rattle.std.specs.List.{list_any};
 ghost use Rattle.fs_cert_evidence.specs.Regions.{names, stored_at};
 ghost use Rattle.fs_region_refutation.specs.Views.{region_of, runs_of, accesses_at};
-ghost use Rattle.fs_region_refutation.specs.inner.Each.{is_last, of_hart, of_others, IsParted, AreNames};
+ghost use Rattle.fs_region_refutation.specs.inner.Each.{is_last, IsParted, AreNames};
 ghost use Rattle.fs_region_refutation.specs.inner.Each.{stores_there, own_are_quiet, others_are_quiet, AreMarks};
 
 use crate::basis::Basis;
@@ -32,44 +32,22 @@ pub(crate) struct Names {
     pub(crate) others_quiet: Vec<bool>,
 }
 
-/// Those of the hart.
-fn of_hart(
-    alloc: Global,
-    names: &[OperationName],
-    hart: u8,
-) -> Result<List<OperationName>, AllocError>
-    ensures { IfOk result (λ own. own ≡ of_hart hart names.now) }
-{
-    let own = names
-        .iter()
-        .copied()
-        .filter(|name| name.hart == hart)
-        .collect(alloc)?;
-    Ok(List::new(own))
-}
-
-/// Those of the other harts.
-fn of_others(
-    alloc: Global,
-    names: &[OperationName],
-    hart: u8,
-) -> Result<List<OperationName>, AllocError>
-    ensures { IfOk result (λ others. others ≡ of_others hart names.now) }
-{
-    let others = names
-        .iter()
-        .copied()
-        .filter(|name| name.hart != hart)
-        .collect(alloc)?;
-    Ok(List::new(others))
-}
-
+/// Those of the hart, and those of the other harts.
 fn split(alloc: Global, names: &[OperationName], hart: u8) -> Result<Parted, AllocError>
     ensures { IfOk result (IsParted hart names.now) }
 {
+    let mut own = Vec::new(alloc);
+    let mut others = Vec::new(alloc);
+    for name in names {
+        if name.hart == hart {
+            own.push(*name)?;
+        } else {
+            others.push(*name)?;
+        }
+    }
     Ok(Parted {
-        own: of_hart(alloc, names, hart)?,
-        others: of_others(alloc, names, hart)?,
+        own: List::new(own),
+        others: List::new(others),
     })
 }
 
@@ -77,10 +55,12 @@ fn split(alloc: Global, names: &[OperationName], hart: u8) -> Result<Parted, All
 fn is_overtaken(basis: &Basis, region: &Region<'_>, name: OperationName) -> bool
     ensures { result ≡ list_any ((region_of region.now).before name) (names basis.now) }
 {
-    basis
-        .names()
-        .iter()
-        .any(|other| region.is_before(name, *other))
+    for other in basis.names() {
+        if region.is_before(name, *other) {
+            return true;
+        }
+    }
+    false
 }
 
 /// Those that come before no other.
@@ -104,24 +84,36 @@ fn last_names(
 fn stores_there(run: &Lone, names: &[OperationName], location: u8) -> bool
     ensures { result ≡ stores_there names.now location run.now.steps }
 {
-    names
-        .iter()
-        .any(|name| accesses(run, Access::Store, name.at, location))
+    for name in names {
+        if accesses(run, Access::Store, name.at, location) {
+            return true;
+        }
+    }
+    false
 }
 
 /// Does one of the runs store there under one of the names?
 fn any_stores_there(runs: &[&Lone], names: &[OperationName], location: u8) -> bool
     ensures { result ≡ list_any (stores_there names.now location) (runs_of runs.now) }
 {
-    runs.iter().any(|run| stores_there(run, names, location))
+    for run in runs {
+        if stores_there(run, names, location) {
+            return true;
+        }
+    }
+    false
 }
 
 /// Does one of the runs store there under the name?
 fn any_stores(runs: &[&Lone], name: OperationName, location: u8) -> bool
     ensures { result ≡ list_any (accesses_at stored_at name.at location) (runs_of runs.now) }
 {
-    runs.iter()
-        .any(|run| accesses(run, Access::Store, name.at, location))
+    for run in runs {
+        if accesses(run, Access::Store, name.at, location) {
+            return true;
+        }
+    }
+    false
 }
 
 /// Does some run store there under the name of its hart?
@@ -129,9 +121,12 @@ fn some_store(region: &Region<'_>, names: &[OperationName], location: u8) -> boo
     ensures { result ≡ list_any (λ a. list_any (accesses_at stored_at a.at location)
         ((region_of region.now).runs a.hart)) names.now }
 {
-    names
-        .iter()
-        .any(|name| any_stores(region.runs(name.hart), *name, location))
+    for name in names {
+        if any_stores(region.runs(name.hart), *name, location) {
+            return true;
+        }
+    }
+    false
 }
 
 /// The number of locations that are asked for: all or none.

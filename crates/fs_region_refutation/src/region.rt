@@ -1,12 +1,12 @@
 //! Regions: what is known of the candidates that are in one.
 
-ghost use Rattle.std.specs.Prelude.{◌≡◌, ◌≢◌, ◌≤◌, ◌<◌, ℕ, length, slice_set, IfOk};
+ghost use Rattle.std.specs.Prelude.{◌≡◌, ◌≢◌, ◌≤◌, ◌<◌, ◌∷◌, ℕ, length, slice_set, IfOk};
 ghost use Rattle.fs_kinds.specs.declared.reason.OperationName.{OperationName as Name};
 ghost use Rattle.fs_model.specs.declared.test.Test.{Test};
 ghost use Rattle.fs_cert_evidence.specs.Splits.{with_source, with_order, with_wanted};
 ghost use Rattle.fs_region_runs.specs.Alone.{source_of};
 ghost use Rattle.fs_region_refutation.specs.Views.{region_of, known_source, runs_of, all_wanted, with_runs, source_in};
-ghost use Rattle.fs_region_refutation.specs.Views.{source_after, lists_in, list_at, IsOf, AreRunsOf};
+ghost use Rattle.fs_region_refutation.specs.Views.{Shares, source_after, lists_in, list_at, IsOf, AreRunsOf};
 
 use crate::musts::is_same_name;
 use fs_kinds::{List, OperationName};
@@ -78,12 +78,18 @@ impl<'a> Region<'a> {
     pub fn is_before(&self, first: OperationName, second: OperationName) -> bool
         ensures { result ≡ (region_of self.now).before first second }
     {
-        self.orders.iter().any(|known| is_same_name(first, known.first)
-            && is_same_name(second, known.second))
+        for known in self.orders.iter() {
+            if is_same_name(first, known.first) && is_same_name(second, known.second) {
+                return true;
+            }
+        }
+        false
     }
 
     /// The same region, which shares its lists.
     pub(crate) fn shared(&self, alloc: Global) -> Result<Region<'a>, AllocError>
+        ensures lists { IfOk result (λ region. lists_in region.runs.items ≡ lists_in self.now.runs.items) }
+        ensures rest { IfOk result (Shares self.now) }
         ensures region { IfOk result (λ region. region_of region ≡ region_of self.now) }
         ensures of { (t : Test) → IsOf t self.now → IfOk result (IsOf t) }
     {
@@ -110,19 +116,14 @@ impl<'a> Region<'a> {
         ensures of { (t : Test) → IsOf t self.now → AreRunsOf t hart runs.entry → IfOk result (IsOf t) }
     {
         let runs = Arc::new(alloc, runs)?;
-        let mut all = share(alloc, &self.runs)?;
-        set(&mut all, hart, runs);
-        Ok(Region {
-            runs: all,
-            sources: Arc::try_clone(&self.sources)?,
-            orders: Arc::try_clone(&self.orders)?,
-            wanted: Arc::try_clone(&self.wanted)?,
-        })
+        let mut region = self.shared(alloc)?;
+        set(&mut region.runs, hart, runs);
+        Ok(region)
     }
 
     /// The region where the load returns from this source.
     pub(crate) fn with_source(
-        self,
+        mut self,
         alloc: Global,
         load: OperationName,
         source: Source,
@@ -131,20 +132,9 @@ impl<'a> Region<'a> {
             ≡ with_source load (source_of source) (region_of self.entry)) }
         ensures of { (t : Test) → IsOf t self.entry → IfOk result (IsOf t) }
     {
-        let sources = put(alloc, &self.sources, load, source)?;
-        let sources = Arc::new(alloc, sources)?;
-        let Region {
-            runs,
-            sources: _,
-            orders,
-            wanted,
-        } = self;
-        Ok(Region {
-            runs,
-            sources,
-            orders,
-            wanted,
-        })
+        let sources = put(alloc, self.sources.as_slice(), load, source)?;
+        self.sources = Arc::new(alloc, sources)?;
+        Ok(self)
     }
 
     /// The region where the first store is the earlier one.
@@ -157,16 +147,10 @@ impl<'a> Region<'a> {
         ensures region { IfOk result (λ region. region_of region ≡ with_order first second (region_of self.now)) }
         ensures of { (t : Test) → IsOf t self.now → IfOk result (IsOf t) }
     {
-        let mut orders = Vec::new(alloc);
-        orders.push(Ordered { first, second })?;
-        orders.extend_from_slice(self.orders.as_slice())?;
-        let orders = Arc::new(alloc, List::new(orders))?;
-        Ok(Region {
-            runs: share(alloc, &self.runs)?,
-            sources: Arc::try_clone(&self.sources)?,
-            orders,
-            wanted: Arc::try_clone(&self.wanted)?,
-        })
+        let orders = and_before(alloc, self.orders.as_slice(), first, second)?;
+        let mut region = self.shared(alloc)?;
+        region.orders = Arc::new(alloc, orders)?;
+        Ok(region)
     }
 
     /// The region where these conditions are wanted.
@@ -179,13 +163,9 @@ impl<'a> Region<'a> {
             ≡ with_wanted (all_wanted wanted.entry) (region_of self.now)) }
         ensures of { (t : Test) → IsOf t self.now → IfOk result (IsOf t) }
     {
-        let wanted = Arc::new(alloc, wanted)?;
-        Ok(Region {
-            runs: share(alloc, &self.runs)?,
-            sources: Arc::try_clone(&self.sources)?,
-            orders: Arc::try_clone(&self.orders)?,
-            wanted,
-        })
+        let mut region = self.shared(alloc)?;
+        region.wanted = Arc::new(alloc, wanted)?;
+        Ok(region)
     }
 }
 
@@ -227,5 +207,20 @@ fn put(
     let mut all = Vec::new(alloc);
     all.push(Sourced { load, source })?;
     all.extend_from_slice(&others)?;
+    Ok(List::new(all))
+}
+
+/// The orders, and before them this one.
+fn and_before(
+    alloc: Global,
+    orders: &[Ordered],
+    first: OperationName,
+    second: OperationName,
+) -> Result<List<Ordered>, AllocError>
+    ensures { IfOk result (λ all. all ≡ record { first = first; second = second } ∷ orders.now) }
+{
+    let mut all = Vec::new(alloc);
+    all.push(Ordered { first, second })?;
+    all.extend_from_slice(orders)?;
     Ok(List::new(all))
 }

@@ -3,30 +3,30 @@ use Rattle.std.specs.Arc.{arc_value}
 use Rattle.std.proofs.Math.ListN.{set}
 use Rattle.std.proofs.lemmas.List.{map-set, length-map, set_past}
 use Rattle.fs_region_refutation.specs.declared.region.Region.{Region}
-use Rattle.fs_region_refutation.specs.Views.{lists_in, at_hart}
-use Rattle.fs_region_refutation.proofs.Regions.{Shares, set_runs, same_runs, set_or_past_of}
+use Rattle.fs_region_refutation.specs.Views.{lists_in, at_hart, Shares}
+use Rattle.fs_region_refutation.proofs.Regions.{set_runs, same_runs, set_or_past_of}
 use Rattle.fs_region_refutation.proofs.region.Region.with_runs.Goals as goal
 
 pub returns : goal.returns
 returns c =
     let old = c.args.self.now in
     let hart = c.args.hart in
+    let shared = c.in_ok-region.region in
     let new : Region = record {
       runs = c.set.new.lists;
-      sources = c.in_ok-try_clone.field-0;
-      orders = c.in_ok-try_clone-2.field-0;
-      wanted = c.in_ok-try_clone-3.field-0;
+      sources = shared.sources;
+      orders = shared.orders;
+      wanted = shared.wanted;
     } in
     let shares : Shares old new = record {
-      sources = c.in_ok-try_clone.ensures;
-      orders = c.in_ok-try_clone-2.ensures;
-      wanted = c.in_ok-try_clone-3.ensures;
+      sources = c.in_ok-region.ensures.rest.sources;
+      orders = c.in_ok-region.ensures.rest.orders;
+      wanted = c.in_ok-region.ensures.rest.wanted;
     } in
-    let shared : lists_in c.in_ok-all.all.items ≡ lists_in old.runs.items = c.in_ok-all.ensures ∙ ap lists_in c.deref.ensures.value in
     let is : lists_in new.runs.items ≡ set (lists_in old.runs.items) hart c.args.runs =
     ap lists_in c.set.ensures
-    ∙ map-set arc_value c.in_ok-all.all.items hart c.in_ok-runs.runs
-    ∙ ap (λ lists. set lists hart (arc_value c.in_ok-runs.runs)) shared
+    ∙ map-set arc_value shared.runs.items hart c.in_ok-runs.runs
+    ∙ ap (λ lists. set lists hart (arc_value c.in_ok-runs.runs)) c.in_ok-region.ensures.lists
     ∙ ap (set (lists_in old.runs.items) hart) c.in_ok-runs.ensures.ok in
     let long : length (lists_in old.runs.items) ≡ length old.runs.items = length-map old.runs.items arc_value in
     record {

@@ -1,0 +1,10 @@
+use Rattle.std.proofs.Common.{◌≡◌, drop}
+use Rattle.std.specs.List.{list_any}
+use Rattle.fs_cert_evidence.specs.Musts.{stores_such}
+use Rattle.fs_region_refutation.specs.inner.Each.{is_ending}
+use Rattle.fs_region_refutation.proofs.endings.stores_some.Given as goal
+
+abbrev pub invariant-loop-name : goal.invariant-loop-name
+invariant-loop-name l =
+    list_any (λ a. stores_such l.location (is_ending l.ending) a l.run.steps) l.names
+    ≡ list_any (λ a. stores_such l.location (is_ending l.ending) a l.run.steps) (drop l.name-index l.names)
