@@ -3,11 +3,10 @@
 ghost use Rattle.std.specs.Prelude.{◌≡◌, IfOk, OnOk};
 
 use fs_app_error_messages::{
-    Located, explain_fences, explain_json, explain_unread, locate, locate_fences, locate_json,
-    locate_test,
+    Located, explain_all, explain_all_of_test, explain_fences, explain_json, explain_unread,
+    locate, locate_fences, locate_json, locate_test,
 };
 use fs_app_io::{INPUT_LIMIT, Missing, Source, Unread, read_file, read_input};
-use fs_app_error_messages::{explain_all, explain_all_of_test};
 use fs_app_test::Note;
 use fs_kinds::Fault;
 use std::alloc::{AllocError, Global};
