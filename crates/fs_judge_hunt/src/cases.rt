@@ -124,7 +124,7 @@ impl Splitter<'_> {
         region: &Region,
         number: usize,
         parts: &[Wanted],
-    ) -> Result<Region, AllocError> {
+    ) -> Result<Box<Region>, AllocError> {
         let wanted = replaced(self.alloc, region.wanted.as_slice(), number, parts)?;
         let wanted = Arc::new(self.alloc, List::new(wanted))?;
         let mut parted = region.copy(self.alloc)?;
@@ -135,7 +135,7 @@ impl Splitter<'_> {
     /// Adds that region.
     fn push_parts(
         self,
-        left: &mut Vec<Region>,
+        left: &mut Vec<Box<Region>>,
         region: &Region,
         number: usize,
         parts: &[Wanted],
@@ -148,7 +148,7 @@ impl Splitter<'_> {
     /// Adds the regions of the ways in which the wanted condition of this number gets its truth value.
     pub(crate) fn push_cases(
         self,
-        left: &mut Vec<Region>,
+        left: &mut Vec<Box<Region>>,
         region: &Region,
         number: usize,
     ) -> Result<(), AllocError> {
@@ -161,7 +161,7 @@ impl Splitter<'_> {
     /// Adds these.
     fn push_ways(
         self,
-        left: &mut Vec<Region>,
+        left: &mut Vec<Box<Region>>,
         region: &Region,
         number: usize,
         wanted: Wanted,

@@ -18,9 +18,9 @@ use std::sync::Arc;
 #[derive(Drop)]
 pub(crate) enum Child {
     /// It ends so.
-    Ended(Arc<Dead>, Region),
+    Ended(Arc<Dead>, Box<Region>),
     /// It is open, and this followed in it.
-    Open(Region, Vec<Step>),
+    Open(Box<Region>, Vec<Step>),
 }
 
 /// A split with what it makes of a region, of which so many are left open.
@@ -46,7 +46,11 @@ pub(crate) struct Chooser<'a> {
 }
 
 /// Looks at the region.
-pub(crate) fn look(alloc: Global, field: Field<'_>, region: Region) -> Result<Child, AllocError> {
+pub(crate) fn look(
+    alloc: Global,
+    field: Field<'_>,
+    region: Box<Region>,
+) -> Result<Child, AllocError> {
     let Looked {
         region,
         steps,
@@ -101,7 +105,7 @@ impl Chooser<'_> {
         &self,
         trail: &mut Trail,
         split: &mut Split,
-        region: Region,
+        region: Box<Region>,
         most: usize,
     ) -> Result<(), AllocError> {
         let branch = self.splitter().branch(split.decision, &region);
@@ -120,7 +124,7 @@ impl Chooser<'_> {
         &self,
         trail: &mut Trail,
         split: &mut Split,
-        regions: Vec<Region>,
+        regions: Vec<Box<Region>>,
         most: usize,
     ) -> Result<(), AllocError> {
         for region in regions {
@@ -134,7 +138,7 @@ impl Chooser<'_> {
         &self,
         trail: &mut Trail,
         branch: Option<Branch>,
-        region: Region,
+        region: Box<Region>,
     ) -> Result<Child, AllocError> {
         trail.looks = trail.looks.saturating_add(1);
         let child = look(self.alloc, self.field, region)?;
@@ -252,7 +256,7 @@ impl Chooser<'_> {
 }
 
 /// Is the one region that a split makes the region itself?
-fn is_vain(region: &Region, decision: Decision, made: &[Region]) -> bool {
+fn is_vain(region: &Region, decision: Decision, made: &[Box<Region>]) -> bool {
     match (decision, made) {
         (Decision::Cases(_), _) => false,
         (_, [one]) => one.is_like(region),

@@ -1,11 +1,11 @@
 //! What must hold in all candidates of a region, all harts together.
 
 use crate::access::NOWHERE;
-use crate::names::{MOST_NAMES, Origin, Relation, bit, has};
+use crate::names::{MOST_NAMES, Origin, Relation, bit, has, least, without_least};
 use crate::region::{Field, Region};
 use crate::rows::is_within;
 use crate::rules::Rule;
-use crate::sum::Sum;
+use crate::sum::{Common, Sum};
 use fs_kinds::MOST_LOCATIONS;
 
 /// What depends on the runs and sources of a region, and not on the order of stores. The sets are of names.
@@ -27,15 +27,15 @@ pub(crate) struct Facts {
     pub(crate) pairs: Relation,
 }
 
-fn merge(places: &mut [u8], more: &[u8]) {
-    for number in 0..places.len().min(more.len()) {
-        if more[number] != NOWHERE {
-            places[number] = more[number];
-        }
+fn set_at(places: &mut [u8; MOST_NAMES], name: u8, location: u8) {
+    let name = usize::from(name);
+    if name < MOST_NAMES {
+        places[name] = location;
     }
 }
 
-fn blank() -> Facts {
+/// Nothing must hold.
+pub(crate) fn blank() -> Facts {
     Facts {
         loads: 0,
         stores: 0,
@@ -54,30 +54,46 @@ impl Facts {
     /// Those of the region.
     pub(crate) fn of(field: Field<'_>, region: &Region) -> Facts {
         let mut facts = blank();
-        let mut hart: u8 = 0;
-        for left in &region.left {
-            facts.add_sum(region, &left.sum, field.count);
-            facts.add_fenced(field.fenced_in(hart), &left.row);
-            hart = hart.saturating_add(1);
-        }
-        for name in 0..field.count {
-            facts.add_stored(name);
-            facts.add_read(field, region, name);
-        }
+        facts.add(field, region);
         facts
     }
 
-    fn add_sum(&mut self, region: &Region, sum: &Sum, count: u8) {
+    /// Adds those of the region, where there are none yet.
+    pub(crate) fn add(&mut self, field: Field<'_>, region: &Region) {
+        let mut hart: u8 = 0;
+        for left in &region.left {
+            self.add_sum(region, &left.sum);
+            self.add_fenced(field.fenced_in(hart), &left.row);
+            hart = hart.saturating_add(1);
+        }
+        for name in 0..field.count {
+            self.add_stored(name);
+            self.add_read(field, region, name);
+        }
+    }
+
+    fn add_sum(&mut self, region: &Region, sum: &Sum) {
         self.loads |= sum.loads;
         self.stores |= sum.stores;
         self.may_load |= sum.may_load;
         self.may_store |= sum.may_store;
-        merge(&mut self.load_at, &sum.load_at);
-        merge(&mut self.store_at, &sum.store_at);
-        self.edges.join(&sum.ordered);
-        self.pairs.join(&sum.pairs);
-        self.add_same(region, sum, count);
+        let mut name = sum.first;
+        for common in &sum.names {
+            self.add_common(region, name, common);
+            name = name.saturating_add(1);
+        }
         self.add_through(region, sum);
+    }
+
+    /// Takes what is common at the name.
+    fn add_common(&mut self, region: &Region, name: u8, common: &Common) {
+        set_at(&mut self.load_at, name, common.load_at);
+        set_at(&mut self.store_at, name, common.store_at);
+        self.edges.add_all(name, common.ordered);
+        self.pairs.add_all(name, common.pairs);
+        if common.same != 0 {
+            self.add_same(region, name, common.same);
+        }
     }
 
     /// Rule 4, where it holds in each of the hart's runs.
@@ -90,18 +106,18 @@ impl Facts {
     }
 
     /// Rule 2, where the sources are known and differ.
-    fn add_same(&mut self, region: &Region, sum: &Sum, count: u8) {
-        for first in 0..count {
-            let later = sum.same.row(first);
-            let origin = region.origin(first);
-            if later == 0 || origin == Origin::Unknown {
-                continue;
-            }
-            for second in 0..count {
-                let other = region.origin(second);
-                if has(later, second) && other != Origin::Unknown && other != origin {
-                    self.edges.add(first, second);
-                }
+    fn add_same(&mut self, region: &Region, first: u8, later: u64) {
+        let origin = region.origin(first);
+        if origin == Origin::Unknown {
+            return;
+        }
+        let mut left = later;
+        for _ in 0..later.count_ones() {
+            let second = least(left);
+            left = without_least(left);
+            let other = region.origin(second);
+            if other != Origin::Unknown && other != origin {
+                self.edges.add(first, second);
             }
         }
     }
@@ -176,29 +192,23 @@ impl Facts {
         }
     }
 
-    /// What must come before what.
-    pub(crate) fn all_edges(&self, region: &Region, count: u8) -> Relation {
-        let mut edges = self.plain_edges(region, count);
-        edges.join(&self.fenced);
-        edges
-    }
-
-    /// The same without rule 4.
-    pub(crate) fn plain_edges(&self, region: &Region, count: u8) -> Relation {
-        let mut edges = self.edges;
+    /// Adds to the edges what the order of stores puts in order.
+    pub(crate) fn add_ordered(&self, edges: &mut Relation, region: &Region, count: u8) {
         edges.join(&region.before);
         for load in 0..count {
             let later = self.overwriting(region, load);
             edges.add_all(load, later & !bit(load));
         }
-        edges
     }
 }
 
 /// Does rule 3 order the load behind the store of this hart from which it returns?
 fn is_returned(region: &Region, hart: u8, store: u8, load: u8) -> bool {
     match region.left(hart) {
-        Some(left) => left.sum.returned.has(store, load),
+        Some(left) => match left.sum.common(store) {
+            Some(common) => has(common.returned, load),
+            None => false,
+        },
         None => false,
     }
 }

@@ -183,7 +183,7 @@ fn add_pair(
 }
 
 /// The pairs of the hart's names between which rule 4 holds with the placement, each with the runs.
-fn fenced(
+pub(crate) fn fenced(
     alloc: Global,
     number: u8,
     hart: &Hart,

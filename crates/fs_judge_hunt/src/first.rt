@@ -16,8 +16,8 @@ struct Narrowing<'a> {
     alloc: Global,
     field: Field<'a>,
     limits: Limits,
-    region: Region,
-    found: Region,
+    region: Box<Region>,
+    found: Box<Region>,
 }
 
 /// What comes of a try.
@@ -35,7 +35,7 @@ fn is_first(region: &Region, store: u8, stores: u64) -> bool {
 }
 
 /// The place of the first of the regions in which the found one's runs are.
-fn place_of_runs(regions: &[Region], found: &Region) -> usize {
+fn place_of_runs(regions: &[Box<Region>], found: &Region) -> usize {
     for (place, region) in regions.iter().enumerate() {
         if found.is_in(region) {
             return place;
@@ -45,7 +45,7 @@ fn place_of_runs(regions: &[Region], found: &Region) -> usize {
 }
 
 /// That of the first in which the load has this source.
-fn place_of_source(regions: &[Region], load: u8, origin: Origin) -> usize {
+fn place_of_source(regions: &[Box<Region>], load: u8, origin: Origin) -> usize {
     for (place, region) in regions.iter().enumerate() {
         if region.origin(load) == origin {
             return place;
@@ -55,7 +55,7 @@ fn place_of_source(regions: &[Region], load: u8, origin: Origin) -> usize {
 }
 
 /// That of the first in which the store comes before the others.
-fn place_of_first(regions: &[Region], store: u8, stores: u64) -> usize {
+fn place_of_first(regions: &[Box<Region>], store: u8, stores: u64) -> usize {
     for (place, region) in regions.iter().enumerate() {
         if is_first(region, store, stores) {
             return place;
@@ -72,7 +72,7 @@ impl Narrowing<'_> {
     }
 
     /// Takes the smaller region, if it shows something.
-    fn take(&mut self, smaller: Region) -> Result<Tried, AllocError> {
+    fn take(&mut self, smaller: Box<Region>) -> Result<Tried, AllocError> {
         match self.hunt(&smaller)? {
             Hunted::Shown(found) => {
                 self.region = smaller;
@@ -85,7 +85,7 @@ impl Narrowing<'_> {
     }
 
     /// Takes the first of the smaller regions that shows something. What was found is in the one at this place.
-    fn take_first(&mut self, regions: Vec<Region>, place: usize) -> Result<Tried, AllocError> {
+    fn take_first(&mut self, regions: Vec<Box<Region>>, place: usize) -> Result<Tried, AllocError> {
         let mut number: usize = 0;
         for smaller in regions {
             if number == place {
@@ -101,7 +101,7 @@ impl Narrowing<'_> {
         Ok(Tried::GaveUp)
     }
 
-    fn children(&self, decision: Decision) -> Result<Vec<Region>, AllocError> {
+    fn children(&self, decision: Decision) -> Result<Vec<Box<Region>>, AllocError> {
         let splitter = Splitter {
             alloc: self.alloc,
             field: self.field,
@@ -140,11 +140,11 @@ impl Narrowing<'_> {
     }
 
     /// The regions in which one of the stores comes first, by that store.
-    fn by_first(&self, stores: u64) -> Result<Vec<Region>, AllocError> {
+    fn by_first(&self, stores: u64) -> Result<Vec<Box<Region>>, AllocError> {
         let mut regions = Vec::new(self.alloc);
         for store in 0..self.field.count {
             let known = &self.region.before;
-            if has(stores, store) && before(known, stores, store, self.field.count).is_none() {
+            if has(stores, store) && before(known, stores, store).is_none() {
                 let mut region = self.region.copy(self.alloc)?;
                 region.before.add_all(store, stores & !bit(store));
                 regions.push(region)?;
@@ -212,7 +212,7 @@ pub(crate) fn hunt_first(
     alloc: Global,
     field: Field<'_>,
     search: &mut Search,
-    region: Region,
+    region: Box<Region>,
     limits: Limits,
 ) -> Result<Hunted, AllocError> {
     let found = match search.hunt(alloc, field, limits)? {

@@ -26,7 +26,7 @@ pub(crate) enum Hunted {
     /// All regions of the tree have ended.
     Refuted,
     /// A region with nothing left to decide.
-    Shown(Region),
+    Shown(Box<Region>),
     GaveUp,
 }
 
@@ -61,7 +61,7 @@ impl Ground<'_> {
         region: &Region,
         decision: Decision,
         part: usize,
-    ) -> Result<Option<Region>, AllocError> {
+    ) -> Result<Option<Box<Region>>, AllocError> {
         let splitter = Splitter {
             alloc: self.alloc,
             field: self.field,
@@ -110,7 +110,7 @@ pub(crate) struct Search {
 
 impl Search {
     /// Searches over the region.
-    pub(crate) fn new(alloc: Global, root: Region) -> Result<Search, AllocError> {
+    pub(crate) fn new(alloc: Global, root: Box<Region>) -> Result<Search, AllocError> {
         Ok(Search {
             tree: Tree::new(alloc, root)?,
             learned: Learned::new(alloc),
@@ -234,10 +234,10 @@ impl Search {
     fn part_of(
         &self,
         ground: Ground<'_>,
-        region: Option<Region>,
+        region: Option<Box<Region>>,
         depth: usize,
         frame: &Frame,
-    ) -> Result<Option<Region>, AllocError> {
+    ) -> Result<Option<Box<Region>>, AllocError> {
         let Some(mut bare) = region else {
             return Ok(None);
         };
@@ -260,7 +260,11 @@ impl Search {
     }
 
     /// The region of the node below the path, but for its pairs of stores.
-    fn region_of(&self, ground: Ground<'_>, node: usize) -> Result<Option<Region>, AllocError> {
+    fn region_of(
+        &self,
+        ground: Ground<'_>,
+        node: usize,
+    ) -> Result<Option<Box<Region>>, AllocError> {
         let kept = self.tree.copy_of(ground.alloc, node)?;
         if kept.is_some() {
             return Ok(kept);
@@ -269,7 +273,11 @@ impl Search {
     }
 
     /// The region into which the path goes at its end, made from the one of its node at this depth.
-    fn region_below(&self, ground: Ground<'_>, start: usize) -> Result<Option<Region>, AllocError> {
+    fn region_below(
+        &self,
+        ground: Ground<'_>,
+        start: usize,
+    ) -> Result<Option<Box<Region>>, AllocError> {
         if start >= self.path.len() {
             return Ok(None);
         }
@@ -281,7 +289,7 @@ impl Search {
     }
 
     /// What the last look at the node has left, if it was in this search.
-    fn take_fresh(&mut self, node: usize) -> Option<(Region, Vec<Step>)> {
+    fn take_fresh(&mut self, node: usize) -> Option<(Box<Region>, Vec<Step>)> {
         if node >= self.tree.nodes.len() {
             return None;
         }
@@ -293,7 +301,7 @@ impl Search {
         &mut self,
         ground: Ground<'_>,
         node: usize,
-    ) -> Result<Option<(Region, Vec<Step>)>, AllocError> {
+    ) -> Result<Option<(Box<Region>, Vec<Step>)>, AllocError> {
         if let Some(found) = self.take_fresh(node) {
             return Ok(Some(found));
         }
@@ -308,8 +316,8 @@ impl Search {
         &mut self,
         ground: Ground<'_>,
         node: usize,
-        region: Region,
-    ) -> Result<Option<(Region, Vec<Step>)>, AllocError> {
+        region: Box<Region>,
+    ) -> Result<Option<(Box<Region>, Vec<Step>)>, AllocError> {
         self.trail.looks = self.trail.looks.saturating_add(1);
         match look(ground.alloc, ground.field, region)? {
             Child::Ended(dead, region) => {
@@ -388,9 +396,9 @@ impl Search {
         &mut self,
         ground: Ground<'_>,
         node: usize,
-        region: Region,
+        region: Box<Region>,
         steps: Vec<Step>,
-    ) -> Result<Option<Region>, AllocError> {
+    ) -> Result<Option<Box<Region>>, AllocError> {
         let mark = self.trail.mark();
         let held = self.held(ground, &region, steps)?;
         let Some(split) = self.choose(ground, &region, &held)? else {
@@ -420,7 +428,11 @@ impl Search {
     }
 
     /// Looks through the node below the path. Its region where nothing is left to decide.
-    fn enter(&mut self, ground: Ground<'_>, node: usize) -> Result<Option<Region>, AllocError> {
+    fn enter(
+        &mut self,
+        ground: Ground<'_>,
+        node: usize,
+    ) -> Result<Option<Box<Region>>, AllocError> {
         self.entered = self.entered.saturating_add(1);
         let Some(known) = self.tree.node(node) else {
             return Ok(None);

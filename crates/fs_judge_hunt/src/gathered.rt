@@ -14,7 +14,7 @@ struct Gathering {
     /// The trees of the others, by their tickets.
     trees: Vec<Option<Vec<Node>>>,
     /// A region in which nothing is left to decide, and the parts that lead to it.
-    shown: Option<(Region, Vec<usize>)>,
+    shown: Option<(Box<Region>, Vec<usize>)>,
     is_open: bool,
     looks: usize,
 }

@@ -6,7 +6,7 @@ ghost use Rattle.fs_kinds.specs.declared.fault.Fault.TheVariants.{Memory};
 use crate::access::initial_word;
 use crate::condition::Condition;
 use crate::crew::{Alone, Chase, Crew};
-use crate::fences::{all_fenced, pairs_at};
+use crate::fences::{all_fenced, fenced, pairs_at};
 use crate::first::hunt_first;
 use crate::frames::{Hunted, Limits, Search};
 use crate::hart::{Hart, may_store_often};
@@ -18,6 +18,7 @@ use crate::witness::{Execution, execution_of};
 use fs_kinds::{Fault, Kind, MOST_LOCATIONS, OperationName, Placement, Slot};
 use fs_model::Test;
 use std::alloc::{AllocError, Global};
+use std::mem::swap;
 use std::sync::Arc;
 
 /// At how many regions a short hunt looks.
@@ -104,6 +105,14 @@ impl Kept {
         self.search = None;
         self.refusals = self.refusals.saturating_add(1);
     }
+}
+
+/// An execution, the fences that it bears, and rule 4 in each hart with these.
+#[derive(Drop)]
+struct Wide {
+    execution: Execution,
+    borne: Placement,
+    fenced: Vec<Vec<Rule>>,
 }
 
 /// What a hunt comes to.
@@ -295,55 +304,60 @@ impl Hunter {
         ensures err { IsOkUnless result Memory }
     {
         let looks = kept.looks;
-        let mut widest = execution;
-        let mut borne = placement.copy()?;
         let mut slots = Vec::new(alloc);
+        let mut widest = Wide {
+            borne: placement.copy()?,
+            fenced: all_fenced(alloc, &self.runs.harts, placement)?,
+            execution,
+        };
         let entries = placement.as_slice();
         for place in 0..entries.len() {
             let slot = entries[entries.len() - 1 - place].slot;
-            if let Some((more, wider)) = self.wider(alloc, kept, &borne, slot)? {
-                widest = wider;
-                borne = more;
+            if self.widen(alloc, kept, &mut widest, slot)? {
                 slots.push(slot)?;
             }
         }
         kept.borne = Some(slots);
         kept.looks = looks;
-        Ok(widest)
+        Ok(widest.execution)
     }
 
-    /// The placement with `rw,rw` in the slot, and an execution that bears it, if a short hunt finds one.
-    fn wider(
+    /// Puts `rw,rw` in the slot, where the execution bears it, or a short hunt finds one that does. Does it?
+    fn widen(
         &self,
         alloc: Global,
         kept: &mut Kept,
-        borne: &Placement,
+        widest: &mut Wide,
         slot: Slot,
-    ) -> Result<Option<(Placement, Execution)>, Fault>
+    ) -> Result<bool, Fault>
         ensures err { IsOkUnless result Memory }
     {
-        let mut more = borne.copy()?;
-        if more.with(slot, Some(Kind::RwRw)).is_err() {
-            return Ok(None);
+        let mut more = widest.borne.copy()?;
+        let number = usize::from(slot.hart);
+        if more.with(slot, Some(Kind::RwRw)).is_err()
+            || number >= self.runs.harts.len()
+            || number >= widest.fenced.len()
+        {
+            return Ok(false);
         }
-        match self.glimpse(alloc, kept, &more)? {
-            Some(execution) => Ok(Some((more, execution))),
-            None => Ok(None),
+        let mut rules = fenced(alloc, slot.hart, &self.runs.harts[number], &more)?;
+        swap(&mut widest.fenced[number], &mut rules);
+        if !widest.execution.bears(slot) {
+            let field = self.field(&widest.fenced, &more);
+            match self.glimpse(alloc, field, kept)? {
+                Some(execution) => widest.execution = execution,
+                None => {
+                    swap(&mut widest.fenced[number], &mut rules);
+                    return Ok(false);
+                }
+            }
         }
+        widest.borne = more;
+        Ok(true)
     }
 
     /// An execution that shows the outcome with the placed fences, if a hunt soon finds one.
     fn glimpse(
-        &self,
-        alloc: Global,
-        kept: &mut Kept,
-        placement: &Placement,
-    ) -> Result<Option<Execution>, AllocError> {
-        let fenced = all_fenced(alloc, &self.runs.harts, placement)?;
-        self.glimpse_in(alloc, self.field(&fenced, placement), kept)
-    }
-
-    fn glimpse_in(
         &self,
         alloc: Global,
         field: Field<'_>,

@@ -131,8 +131,8 @@ impl Learned {
     }
 
     /// For each name how many cycles lack only its source.
-    pub(crate) fn votes(&self, region: &Region, facts: &Facts) -> [usize; MOST_NAMES] {
-        let mut votes = [0usize; MOST_NAMES];
+    pub(crate) fn votes(&self, region: &Region, facts: &Facts) -> [u16; MOST_NAMES] {
+        let mut votes = [0u16; MOST_NAMES];
         for cycle in &self.cycles {
             if let Some(load) = lacking(region, facts, cycle) {
                 vote(&mut votes, usize::from(load));
@@ -143,7 +143,7 @@ impl Learned {
 }
 
 /// One more for the load.
-fn vote(votes: &mut [usize; MOST_NAMES], load: usize) {
+fn vote(votes: &mut [u16; MOST_NAMES], load: usize) {
     if load < MOST_NAMES {
         votes[load] = votes[load].saturating_add(1);
     }

@@ -11,6 +11,16 @@ pub(crate) fn bit(name: u8) -> u64 {
     1u64.wrapping_shl(u32::from(name))
 }
 
+/// The least name of the set, if it has one.
+pub(crate) fn least(names: u64) -> u8 {
+    (names.trailing_zeros() & 63) as u8
+}
+
+/// The set without its least name.
+pub(crate) fn without_least(names: u64) -> u64 {
+    names & names.wrapping_sub(1)
+}
+
 /// Is the name in the set?
 pub(crate) fn has(names: u64, name: u8) -> bool {
     names & bit(name) != 0
@@ -81,18 +91,19 @@ impl Relation {
         leave_out(&mut self.rows, &other.rows);
     }
 
-    /// Its transitive closure, where it is of so many names.
-    pub(crate) fn closure(&self, count: u8) -> Relation {
-        let mut closed = *self;
+    /// Makes it transitive, where it is of so many names.
+    pub(crate) fn close(&mut self, count: u8) {
         for middle in 0..count {
-            closed.close_through(middle, usize::from(count));
+            self.close_through(middle, usize::from(count));
         }
-        closed
     }
 
     /// Puts what comes before this name before all that comes after it, among the first so many names.
     fn close_through(&mut self, middle: u8, count: usize) {
         let beyond = self.row(middle);
+        if beyond == 0 {
+            return;
+        }
         for first in 0..count.min(MOST_NAMES) {
             if has(self.rows[first], middle) {
                 self.rows[first] |= beyond;

@@ -151,16 +151,16 @@ impl Chooser<'_> {
     }
 
     /// The split by the name, with how soon it is to be tried.
-    fn choice_at(&self, trail: &Trail, votes: &[usize], harts: u64, name: u8) -> Option<Choice> {
+    fn choice_at(&self, trail: &Trail, votes: &[u16], harts: u64, name: u8) -> Option<Choice> {
         let decision = self.decision_at(name)?;
         let place = usize::from(name);
         let count = if place < votes.len() { votes[place] } else { 0 };
         let (class, place) = if count > 0 {
-            (Class::Asked, usize::MAX.saturating_sub(count))
+            (Class::Asked, usize::from(u16::MAX.saturating_sub(count)))
         } else if has(harts, self.field.owner(name)) {
-            (Class::Named, trail.open(decision))
+            (Class::Named, usize::from(trail.open(decision)))
         } else {
-            (Class::Other, trail.open(decision))
+            (Class::Other, usize::from(trail.open(decision)))
         };
         Some(Choice {
             decision,

@@ -1,6 +1,6 @@
 //! Shortest ways and cycles in a relation.
 
-use crate::names::{MOST_NAMES, Relation, bit, has};
+use crate::names::{MOST_NAMES, Relation, bit, has, least, without_least};
 use std::alloc::{AllocError, Global};
 
 /// A search for a way, layer by layer: for each name that was met the one before it.
@@ -21,11 +21,14 @@ impl Walk {
     }
 
     /// Takes the names that come after this one, and gives those that weren't met before.
-    fn extend(&mut self, name: u8, later: u64, count: u8) -> u64 {
+    fn extend(&mut self, name: u8, later: u64) -> u64 {
         let fresh = later & !self.met;
         self.met |= fresh;
-        for next in 0..usize::from(count).min(MOST_NAMES) {
-            if has(fresh, next as u8) {
+        let mut left = fresh;
+        for _ in 0..fresh.count_ones() {
+            let next = usize::from(least(left));
+            left = without_least(left);
+            if next < MOST_NAMES {
                 self.parents[next] = name;
             }
         }
@@ -49,22 +52,26 @@ impl Walk {
 }
 
 /// One of the names that comes right before the last one.
-pub(crate) fn before(relation: &Relation, names: u64, last: u8, count: u8) -> Option<u8> {
-    for name in 0..count {
-        if has(names, name) && relation.has(name, last) {
+pub(crate) fn before(relation: &Relation, names: u64, last: u8) -> Option<u8> {
+    let mut left = names;
+    for _ in 0..names.count_ones() {
+        let name = least(left);
+        if relation.has(name, last) {
             return Some(name);
         }
+        left = without_least(left);
     }
     None
 }
 
 /// The next layer.
-fn next_layer(walk: &mut Walk, relation: &Relation, layer: u64, count: u8) -> u64 {
+fn next_layer(walk: &mut Walk, relation: &Relation, layer: u64) -> u64 {
     let mut next = 0;
-    for name in 0..count {
-        if has(layer, name) {
-            next |= walk.extend(name, relation.row(name), count);
-        }
+    let mut left = layer;
+    for _ in 0..layer.count_ones() {
+        let name = least(left);
+        left = without_least(left);
+        next |= walk.extend(name, relation.row(name));
     }
     next
 }
@@ -83,10 +90,10 @@ pub(crate) fn way(
     };
     let mut layer = bit(first);
     for _ in 0..count {
-        if let Some(name) = before(relation, layer, last, count) {
+        if let Some(name) = before(relation, layer, last) {
             return walk.back(alloc, first, name);
         }
-        layer = next_layer(&mut walk, relation, layer, count);
+        layer = next_layer(&mut walk, relation, layer);
     }
     Ok(Vec::new(alloc))
 }
@@ -159,7 +166,7 @@ pub(crate) fn sorted(
 /// The first of the names before which none of them comes.
 fn foremost(closure: &Relation, names: u64, count: u8) -> Option<u8> {
     for name in 0..count {
-        if has(names, name) && before(closure, names, name, count).is_none() {
+        if has(names, name) && before(closure, names, name).is_none() {
             return Some(name);
         }
     }

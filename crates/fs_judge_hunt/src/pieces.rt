@@ -82,9 +82,10 @@ impl Search {
             return Ok(());
         }
         match self.tree.region(self.path[above].node) {
-            Some(region) => tree.keep(alloc, above, region.copy(alloc)?),
-            None => Ok(()),
+            Some(region) => tree.keep(above, region.copy(alloc)?),
+            None => {}
         }
+        Ok(())
     }
 
     /// The path down to this depth, and there into this part.

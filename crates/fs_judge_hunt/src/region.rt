@@ -108,22 +108,27 @@ impl<'a> Field<'a> {
     }
 
     /// All candidates with the outcome, if there can be one. The condition is to have this truth value.
-    pub(crate) fn root(&self, alloc: Global, truth: bool) -> Result<Option<Region>, AllocError> {
+    pub(crate) fn root(
+        &self,
+        alloc: Global,
+        truth: bool,
+    ) -> Result<Option<Box<Region>>, AllocError> {
         let Some(left) = self.all_left(alloc)? else {
             return Ok(None);
         };
         let wanted = wanted_root(alloc, truth)?;
-        Ok(Some(Region {
+        let root = Region {
             left,
             origins: [Origin::Unknown; MOST_NAMES],
             before: Relation::new(),
             wanted,
-        }))
+        };
+        Ok(Some(Box::new(alloc, root)?))
     }
 }
 
 fn share(alloc: Global, left: &[Arc<Left>]) -> Result<Vec<Arc<Left>>, AllocError> {
-    let mut shared = Vec::new(alloc);
+    let mut shared = Vec::with_capacity(alloc, left.len())?;
     for one in left {
         shared.push(Arc::try_clone(one)?)?;
     }
@@ -132,15 +137,16 @@ fn share(alloc: Global, left: &[Arc<Left>]) -> Result<Vec<Arc<Left>>, AllocError
 
 impl Region {
     /// The same region.
-    pub(crate) fn copy(&self, alloc: Global) -> Result<Region, AllocError> {
+    pub(crate) fn copy(&self, alloc: Global) -> Result<Box<Region>, AllocError> {
         let wanted = Arc::try_clone(&self.wanted)?;
         let left = share(alloc, &self.left)?;
-        Ok(Region {
+        let copy = Region {
             left,
             origins: self.origins,
             before: self.before,
             wanted,
-        })
+        };
+        Ok(Box::new(alloc, copy)?)
     }
 
     /// What is left of the hart.
@@ -216,7 +222,7 @@ impl Region {
         field: Field<'_>,
         hart: u8,
         row: &[u64],
-    ) -> Result<Option<Region>, AllocError> {
+    ) -> Result<Option<Box<Region>>, AllocError> {
         if !do_meet(self.row(hart), row) {
             return Ok(None);
         }

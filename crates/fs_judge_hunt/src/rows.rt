@@ -11,11 +11,7 @@ pub fn words_for(runs: usize) -> usize {
 
 /// No run.
 pub fn no_run(alloc: Global, words: usize) -> Result<Row, AllocError> {
-    let mut row = Vec::new(alloc);
-    for _ in 0..words {
-        row.push(0)?;
-    }
-    Ok(row)
+    vec![in alloc; 0; words]
 }
 
 /// The same runs.

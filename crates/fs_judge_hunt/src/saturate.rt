@@ -2,7 +2,7 @@
 
 use crate::clash::{Clash, Ending, Step};
 use crate::endings::Outlook;
-use crate::facts::Facts;
+use crate::facts::{Facts, blank};
 use crate::links::Edge;
 use crate::names::{MOST_NAMES, Pairs, Relation, bit, has};
 use crate::paths::{cycle, name_after, way};
@@ -17,7 +17,7 @@ const MOST_ROUNDS: usize = MOST_NAMES * MOST_NAMES + 1;
 /// A region in which everything was drawn that follows; at the end what ends it, if something does.
 #[derive(Drop)]
 pub(crate) struct Looked {
-    pub(crate) region: Region,
+    pub(crate) region: Box<Region>,
     pub(crate) steps: Vec<Step>,
     pub(crate) ending: Option<Ending>,
 }
@@ -33,22 +33,26 @@ pub(crate) struct View {
 }
 
 impl View {
-    fn of(facts: Facts) -> View {
-        View {
-            facts,
+    fn of(field: Field<'_>, region: &Region) -> View {
+        let mut view = View {
+            facts: blank(),
             edges: Relation::new(),
             fenced: Relation::new(),
             closure: Relation::new(),
-        }
+        };
+        view.facts.add(field, region);
+        view
     }
 
     /// Takes the order of stores that is known now.
     fn renew(&mut self, region: &Region, count: u8) {
-        self.edges = self.facts.plain_edges(region, count);
+        self.edges = self.facts.edges;
+        self.facts.add_ordered(&mut self.edges, region, count);
         self.fenced = self.facts.fenced;
         self.fenced.leave_out(&self.edges);
         self.edges.join(&self.fenced);
-        self.closure = self.edges.closure(count);
+        self.closure = self.edges;
+        self.closure.close(count);
     }
 }
 
@@ -56,7 +60,7 @@ impl View {
 pub(crate) fn saturate(
     alloc: Global,
     field: Field<'_>,
-    region: Region,
+    region: Box<Region>,
 ) -> Result<Looked, AllocError> {
     let known = region.before;
     let mut looked = Looked {
@@ -64,7 +68,7 @@ pub(crate) fn saturate(
         steps: Vec::new(alloc),
         ending: None,
     };
-    let mut view = View::of(Facts::of(field, &looked.region));
+    let mut view = View::of(field, &looked.region);
     for _ in 0..MOST_ROUNDS {
         view.renew(&looked.region, field.count);
         let round = Round {

@@ -50,7 +50,10 @@ impl Decision {
 }
 
 /// Puts the region behind those that are there, if there is one.
-fn push_some(regions: &mut Vec<Region>, region: Option<Region>) -> Result<(), AllocError> {
+fn push_some(
+    regions: &mut Vec<Box<Region>>,
+    region: Option<Box<Region>>,
+) -> Result<(), AllocError> {
     if let Some(region) = region {
         regions.push(region)?;
     }
@@ -93,7 +96,7 @@ impl Splitter<'_> {
         region: &Region,
         facts: &Facts,
         decision: Decision,
-    ) -> Result<Vec<Region>, AllocError> {
+    ) -> Result<Vec<Box<Region>>, AllocError> {
         let mut left = Vec::new(self.alloc);
         self.push_children(&mut left, region, facts, decision)?;
         Ok(left)
@@ -102,7 +105,7 @@ impl Splitter<'_> {
     /// Adds them.
     fn push_children(
         self,
-        left: &mut Vec<Region>,
+        left: &mut Vec<Box<Region>>,
         region: &Region,
         facts: &Facts,
         decision: Decision,
@@ -121,14 +124,14 @@ impl Splitter<'_> {
         self,
         region: &Region,
         decision: Decision,
-    ) -> Result<Vec<Region>, AllocError> {
+    ) -> Result<Vec<Box<Region>>, AllocError> {
         let facts = Facts::of(self.field, region);
         self.children(region, &facts, decision)
     }
 
     fn push_choices(
         self,
-        left: &mut Vec<Region>,
+        left: &mut Vec<Box<Region>>,
         region: &Region,
         name: u8,
     ) -> Result<(), AllocError> {
@@ -144,7 +147,7 @@ impl Splitter<'_> {
     /// Adds the region with only those of the hart's runs that are in the row, if one is.
     fn push_with(
         self,
-        left: &mut Vec<Region>,
+        left: &mut Vec<Box<Region>>,
         region: &Region,
         hart: u8,
         row: &[u64],
@@ -155,7 +158,7 @@ impl Splitter<'_> {
 
     fn push_sources(
         self,
-        left: &mut Vec<Region>,
+        left: &mut Vec<Box<Region>>,
         region: &Region,
         facts: &Facts,
         load: u8,
@@ -171,7 +174,7 @@ impl Splitter<'_> {
     /// Adds the candidates in which the load isn't executed.
     fn push_idle(
         self,
-        left: &mut Vec<Region>,
+        left: &mut Vec<Box<Region>>,
         region: &Region,
         load: u8,
         doing: &Doing,
@@ -184,7 +187,7 @@ impl Splitter<'_> {
     /// Adds those in which it returns what its location begins with, if they may be left.
     fn push_initial(
         self,
-        left: &mut Vec<Region>,
+        left: &mut Vec<Box<Region>>,
         region: &Region,
         load: u8,
         doing: &Doing,
@@ -201,7 +204,7 @@ impl Splitter<'_> {
     /// Adds those in which it returns from one of these stores, if they may be left.
     fn push_stored(
         self,
-        left: &mut Vec<Region>,
+        left: &mut Vec<Box<Region>>,
         region: &Region,
         load: u8,
         stores: u64,
@@ -219,7 +222,7 @@ impl Splitter<'_> {
     /// Adds those in which it returns from this store.
     fn push_from(
         self,
-        left: &mut Vec<Region>,
+        left: &mut Vec<Box<Region>>,
         region: &Region,
         load: u8,
         store: u8,
@@ -234,7 +237,7 @@ impl Splitter<'_> {
         region: &Region,
         load: u8,
         store: u8,
-    ) -> Result<Option<Region>, AllocError> {
+    ) -> Result<Option<Box<Region>>, AllocError> {
         let hart = self.field.owner(load);
         if hart != self.field.owner(store) {
             return self.from_another(region, load, store);
@@ -250,7 +253,7 @@ impl Splitter<'_> {
         region: &Region,
         load: u8,
         store: u8,
-    ) -> Result<Option<Region>, AllocError> {
+    ) -> Result<Option<Box<Region>>, AllocError> {
         let mut agreeing = self.no_runs(load, store)?;
         self.add_agreeing(&mut agreeing, region, load, store);
         let (hart, other) = (self.field.owner(load), self.field.owner(store));
@@ -290,7 +293,7 @@ impl Splitter<'_> {
         hart: u8,
         other: u8,
         agreeing: Agreeing,
-    ) -> Result<Option<Region>, AllocError> {
+    ) -> Result<Option<Box<Region>>, AllocError> {
         let Agreeing { loading, storing } = agreeing;
         if is_empty(&loading) || is_empty(&storing) {
             return Ok(None);
@@ -303,7 +306,7 @@ impl Splitter<'_> {
 
     fn push_orders(
         self,
-        left: &mut Vec<Region>,
+        left: &mut Vec<Box<Region>>,
         region: &Region,
         first: u8,
         second: u8,
@@ -315,7 +318,7 @@ impl Splitter<'_> {
     /// Adds the region in which the first store comes before the second.
     fn push_ordered(
         self,
-        left: &mut Vec<Region>,
+        left: &mut Vec<Box<Region>>,
         region: &Region,
         first: u8,
         second: u8,
@@ -328,7 +331,7 @@ impl Splitter<'_> {
 
     fn push_outcome(
         self,
-        left: &mut Vec<Region>,
+        left: &mut Vec<Box<Region>>,
         region: &Region,
         facts: &Facts,
         hart: u8,
@@ -344,7 +347,7 @@ impl Splitter<'_> {
 }
 
 /// The region in which the load returns from this.
-fn returning(region: Option<Region>, load: u8, origin: Origin) -> Option<Region> {
+fn returning(region: Option<Box<Region>>, load: u8, origin: Origin) -> Option<Box<Region>> {
     let mut region = region?;
     region.set_origin(load, origin);
     Some(region)

@@ -40,14 +40,14 @@ pub(crate) struct Trail {
     pub(crate) looks: usize,
     ended: Vec<Ended>,
     /// For each name how many regions the split by it left open, when it was last tried.
-    open: [usize; MOST_NAMES],
+    open: [u8; MOST_NAMES],
 }
 
 /// What a trail was.
 #[derive(Clone, Copy)]
 pub(crate) struct Mark {
     ended: usize,
-    open: [usize; MOST_NAMES],
+    open: [u8; MOST_NAMES],
 }
 
 /// The steps on which the pairs rest, in their order.
@@ -152,7 +152,7 @@ impl Trail {
         Trail {
             looks: 0,
             ended: Vec::new(alloc),
-            open: [usize::MAX; MOST_NAMES],
+            open: [u8::MAX; MOST_NAMES],
         }
     }
 
@@ -176,10 +176,10 @@ impl Trail {
     }
 
     /// How many regions the decision left open, when it was last tried; the most, if it wasn't. Filters come first.
-    pub(crate) fn open(&self, decision: Decision) -> usize {
+    pub(crate) fn open(&self, decision: Decision) -> u8 {
         match decision.name() {
             Some(name) if usize::from(name) < MOST_NAMES => self.open[usize::from(name)],
-            Some(_) => usize::MAX,
+            Some(_) => u8::MAX,
             None => 0,
         }
     }
@@ -189,7 +189,7 @@ impl Trail {
         if let Some(name) = decision.name() {
             let name = usize::from(name);
             if name < MOST_NAMES {
-                self.open[name] = open;
+                self.open[name] = u8::try_from(open).unwrap_or(u8::MAX);
             }
         }
     }

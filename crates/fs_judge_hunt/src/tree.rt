@@ -120,10 +120,9 @@ impl Node {
     /// A region in which this followed, if something did.
     pub(crate) fn of(
         alloc: Global,
-        region: Region,
+        region: Box<Region>,
         fresh: Option<Fresh>,
     ) -> Result<Node, AllocError> {
-        let region = Box::new(alloc, region)?;
         let mut node = Node::new(alloc);
         node.region = Some(region);
         node.fresh = fresh;
@@ -158,13 +157,13 @@ impl Node {
     }
 
     /// What the last look at it has left, if it was in this hunt.
-    pub(crate) fn take_fresh(&mut self, hunt: usize) -> Option<(Region, Vec<Step>)> {
+    pub(crate) fn take_fresh(&mut self, hunt: usize) -> Option<(Box<Region>, Vec<Step>)> {
         let fresh = self.fresh.take()?;
         if fresh.hunt != hunt {
             return None;
         }
         let region = self.region.take()?;
-        Some((Box::into_inner(region), fresh.steps))
+        Some((region, fresh.steps))
     }
 
     /// It is split as the other one is, but has no parts.
@@ -245,7 +244,7 @@ pub(crate) struct Tree {
 
 impl Tree {
     /// That of a region.
-    pub(crate) fn new(alloc: Global, root: Region) -> Result<Tree, AllocError> {
+    pub(crate) fn new(alloc: Global, root: Box<Region>) -> Result<Tree, AllocError> {
         let start = root.before;
         let root = Node::of(alloc, root, None)?;
         let mut nodes = Vec::new(alloc);
@@ -258,11 +257,10 @@ impl Tree {
         &mut self,
         alloc: Global,
         number: usize,
-        region: Region,
+        region: Box<Region>,
         branching: Branching,
     ) -> Result<(), AllocError> {
         let first = self.nodes.len();
-        let region = Box::new(alloc, region)?;
         let branching = Arc::new(alloc, branching)?;
         if let Some(node) = self.nodes.get_mut(number) {
             node.region = Some(region);
@@ -301,7 +299,7 @@ impl Tree {
         &self,
         alloc: Global,
         number: usize,
-    ) -> Result<Option<Region>, AllocError> {
+    ) -> Result<Option<Box<Region>>, AllocError> {
         match self.region(number) {
             Some(region) => Ok(Some(region.copy(alloc)?)),
             None => Ok(None),
@@ -309,17 +307,10 @@ impl Tree {
     }
 
     /// Keeps the region in the node.
-    pub(crate) fn keep(
-        &mut self,
-        alloc: Global,
-        number: usize,
-        region: Region,
-    ) -> Result<(), AllocError> {
-        let region = Box::new(alloc, region)?;
+    pub(crate) fn keep(&mut self, number: usize, region: Box<Region>) {
         if number < self.nodes.len() {
             self.nodes[number].region = Some(region);
         }
-        Ok(())
     }
 
     /// A node that is split as the one of this number is, but of which nothing else is known.

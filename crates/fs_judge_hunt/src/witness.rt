@@ -7,7 +7,7 @@ use crate::paths::sorted;
 use crate::region::{Field, Region};
 use crate::rows::{first_run, has_run};
 use fs_cert_evidence::{ChoiceLists, Choices};
-use fs_kinds::{List, OperationName};
+use fs_kinds::{List, OperationName, Slot};
 use fs_model::Choice;
 use std::alloc::{AllocError, Global};
 
@@ -74,7 +74,10 @@ fn order(
     region: &Region,
 ) -> Result<List<OperationName>, AllocError> {
     let facts = Facts::of(field, region);
-    let closure = facts.all_edges(region, field.count).closure(field.count);
+    let mut closure = facts.edges;
+    facts.add_ordered(&mut closure, region, field.count);
+    closure.join(&facts.fenced);
+    closure.close(field.count);
     let numbers = sorted(alloc, &closure, facts.loads | facts.stores, field.count)?;
     Ok(List::new(names_of(alloc, field, &numbers)?))
 }
@@ -96,6 +99,21 @@ fn names_of(
 pub struct Execution {
     pub choices: ChoiceLists,
     pub order: List<OperationName>,
+}
+
+impl Execution {
+    /// Does it keep the order of the slot's hart across the slot?
+    pub(crate) fn bears(&self, slot: Slot) -> bool {
+        let mut is_behind = false;
+        for name in &self.order {
+            if name.hart == slot.hart && name.at >= slot.at {
+                is_behind = true;
+            } else if name.hart == slot.hart && is_behind {
+                return false;
+            }
+        }
+        true
+    }
 }
 
 /// The execution that the region shows.
