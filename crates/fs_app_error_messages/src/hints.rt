@@ -148,7 +148,7 @@ fn rows_words(spot: Spot<'_, '_>) -> &'static str {
 }
 
 const FILTER_WORDS: &str =
-    "`filter F` is left out: write `F /\\ C` for the condition `C`, and behind `forall` `F => C`";
+    "`filter F` isn't read here: write `F /\\ C` for the condition `C`, and behind `forall` `F => C`";
 
 /// Is one of the tokens the word `filter`?
 fn has_filter(tokens: &[Token<'_>]) -> bool {
@@ -331,7 +331,7 @@ pub(crate) fn label_words(spot: Spot<'_, '_>) -> &'static str {
     if is_mark(spot.ahead(1), Mark::Colon) {
         return "this label stands twice in its hart";
     }
-    "its label must stand behind it in the same hart: loops are left out, so write their turns one by one"
+    "its label must stand behind it in the same hart: loops are read in one turn, with `--unroll 1`"
 }
 
 /// What is said of a mnemonic that isn't of the profile.

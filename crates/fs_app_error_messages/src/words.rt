@@ -23,7 +23,7 @@ fn is_wide(word: &str) -> bool {
 /// What is said of a word that is no mnemonic of the profile.
 pub(crate) fn unknown_words(word: &str) -> &'static str {
     if is_wide(word) {
-        return "accesses of 64 bits are left out: write the one of a word, as `lw`, `sw` or `amoadd.w`";
+        return "accesses of 64 bits don't go with those of a word: all of a test have one width";
     }
     if is_narrow(word) {
         return "accesses of less than a word are left out: write `lw` or `sw`";
