@@ -1,0 +1,248 @@
+//! The branches of a test file that go back.
+
+use crate::lexemes::{Lexeme, word_at};
+use crate::sheet::{Instruction, Label, Sheet};
+use fs_instr::Reg;
+use std::alloc::{AllocError, Global};
+
+/// How many registers a hart has.
+const REGISTERS: usize = 32;
+
+/// A label to which branches go that have no other turn to make.
+const NEXT_TURN: &str = "NextTurn";
+
+/// The branches of a test that go back, and what stands for them.
+#[derive(Drop)]
+pub(crate) struct Loops {
+    /// The lexemes of the labels in these branches.
+    pub(crate) branches: Vec<usize>,
+    /// The lexemes of labels to which no other branch goes.
+    pub(crate) labels: Vec<usize>,
+    /// Of each hart whether one of its branches goes back.
+    pub(crate) harts: Vec<bool>,
+    /// A register that the file doesn't name.
+    pub(crate) register: usize,
+    /// A label that it doesn't name, but for `_` at its end.
+    pub(crate) unders: usize,
+}
+
+fn is_branch(mnemonic: &str) -> bool {
+    matches!(
+        mnemonic,
+        "beq"
+            | "bne"
+            | "blt"
+            | "bge"
+            | "bltu"
+            | "bgeu"
+            | "beqz"
+            | "bnez"
+            | "blez"
+            | "bgez"
+            | "bltz"
+            | "bgtz"
+            | "bgt"
+            | "ble"
+            | "bgtu"
+            | "bleu"
+            | "j"
+            | "jal"
+    )
+}
+
+/// Does a branch that names it so go to this label? A number is named with `b` behind it, by a branch that goes back.
+fn is_named(label: &str, word: &str) -> bool {
+    if label == word {
+        return true;
+    }
+    match word.strip_suffix('b') {
+        Some(number) => number == label && label.bytes().all(|byte| byte.is_ascii_digit()),
+        None => false,
+    }
+}
+
+/// The one label of the hart that the branch names; nothing where there are none or several.
+fn label_of(
+    text: &[u8],
+    lexemes: &[Lexeme],
+    labels: &[Label],
+    branch: &Instruction,
+) -> Option<Label> {
+    let word = word_at(text, lexemes, branch.last);
+    let mut found = None;
+    for label in labels {
+        if label.hart == branch.hart && is_named(word_at(text, lexemes, label.name), word) {
+            if found.is_some() {
+                return None;
+            }
+            found = Some(*label);
+        }
+    }
+    found
+}
+
+/// The label to which the instruction goes back, if it does.
+fn goes_back_to(
+    text: &[u8],
+    lexemes: &[Lexeme],
+    labels: &[Label],
+    instruction: &Instruction,
+) -> Option<Label> {
+    if !is_branch(word_at(text, lexemes, instruction.mnemonic))
+        || instruction.last == instruction.mnemonic
+    {
+        return None;
+    }
+    let label = label_of(text, lexemes, labels, instruction)?;
+    if label.at <= instruction.at {
+        Some(label)
+    } else {
+        None
+    }
+}
+
+/// Does a branch that doesn't go back end in this label?
+fn is_ahead(text: &[u8], lexemes: &[Lexeme], sheet: &Sheet, label: &Label) -> bool {
+    let name = word_at(text, lexemes, label.name);
+    for instruction in &sheet.instructions {
+        if instruction.hart == label.hart
+            && word_at(text, lexemes, instruction.last) == name
+            && goes_back_to(text, lexemes, &sheet.labels, instruction).is_none()
+        {
+            return true;
+        }
+    }
+    false
+}
+
+/// The greatest register that no word of the file names.
+fn free_register(alloc: Global, text: &[u8], lexemes: &[Lexeme]) -> Result<usize, AllocError> {
+    let mut named = Vec::from_array(alloc, [false; REGISTERS])?;
+    for lexeme in lexemes {
+        if let Some(register) = Reg::of(lexeme.word(text)) {
+            let number = usize::from(register.number());
+            if number < named.len() {
+                named[number] = true;
+            }
+        }
+    }
+    for number in 1..named.len() {
+        let greatest = named.len() - number;
+        if !named[greatest] {
+            return Ok(greatest);
+        }
+    }
+    Ok(0)
+}
+
+/// How many `_` make the label longer than each word of the file that begins with it.
+fn unders(text: &[u8], lexemes: &[Lexeme]) -> usize {
+    let mut most = 0;
+    for lexeme in lexemes {
+        if let Some(more) = lexeme.word(text).strip_prefix(NEXT_TURN) {
+            most = more.len().saturating_add(1).max(most);
+        }
+    }
+    most
+}
+
+/// The branches that go back. Nothing where there are none, or no register is free.
+pub(crate) fn loops_of(
+    alloc: Global,
+    text: &[u8],
+    lexemes: &[Lexeme],
+    sheet: &Sheet,
+) -> Result<Option<Loops>, AllocError> {
+    let mut branches = Vec::new(alloc);
+    let mut labels = Vec::new(alloc);
+    let mut harts = Vec::from_array(alloc, [false; crate::sheet::MOST_HARTS])?;
+    for instruction in &sheet.instructions {
+        if let Some(label) = goes_back_to(text, lexemes, &sheet.labels, instruction) {
+            branches.push(instruction.last)?;
+            if !is_ahead(text, lexemes, sheet, &label) {
+                labels.push(label.name)?;
+            }
+            if instruction.hart < harts.len() {
+                harts[instruction.hart] = true;
+            }
+        }
+    }
+    let register = free_register(alloc, text, lexemes)?;
+    if branches.is_empty() || register == 0 {
+        return Ok(None);
+    }
+    Ok(Some(Loops {
+        branches,
+        labels,
+        harts,
+        register,
+        unders: unders(text, lexemes),
+    }))
+}
+
+/// Appends the label to which branches go that have no other turn to make.
+pub(crate) fn push_next_turn(text: &mut Vec<u8>, unders: usize) -> Result<(), AllocError> {
+    text.extend_from_slice(NEXT_TURN.as_bytes())?;
+    for _ in 0..unders {
+        text.push(b'_')?;
+    }
+    Ok(())
+}
+
+/// Appends a row with this cell in the columns of these harts.
+fn push_row(
+    text: &mut Vec<u8>,
+    columns: usize,
+    harts: &[bool],
+    cell: &[u8],
+) -> Result<(), AllocError> {
+    for column in 0..columns {
+        if column > 0 {
+            text.extend_from_slice(b" |")?;
+        }
+        if harts.get(column) == Some(&true) {
+            text.push(b' ')?;
+            text.extend_from_slice(cell)?;
+        }
+    }
+    text.extend_from_slice(b" ;")
+}
+
+impl Loops {
+    /// Appends the rows that end the code of each hart with a loop: the register becomes 1, and behind that stands the
+    /// label to which branches go that have no other turn to make.
+    pub(crate) fn push_rows(
+        &self,
+        alloc: Global,
+        text: &mut Vec<u8>,
+        columns: usize,
+    ) -> Result<(), AllocError> {
+        let mark = format!(in alloc; "li x{},1", self.register)?;
+        push_row(text, columns, &self.harts, mark.as_bytes())?;
+        let mut label = Vec::new(alloc);
+        push_next_turn(&mut label, self.unders)?;
+        label.push(b':')?;
+        push_row(text, columns, &self.harts, &label)
+    }
+
+    /// Appends for each hart with a loop that its register is 1, joined by `/\`.
+    pub(crate) fn push_marks(
+        &self,
+        alloc: Global,
+        text: &mut Vec<u8>,
+        is_first: bool,
+    ) -> Result<(), AllocError> {
+        let mut is_first = is_first;
+        for (hart, has_loop) in self.harts.iter().enumerate() {
+            if *has_loop {
+                if !is_first {
+                    text.extend_from_slice(b" /\\ ")?;
+                }
+                is_first = false;
+                let atom = format!(in alloc; "{}:x{}=1", hart, self.register)?;
+                text.extend_from_slice(atom.as_bytes())?;
+            }
+        }
+        Ok(())
+    }
+}

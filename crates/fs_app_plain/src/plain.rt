@@ -1,0 +1,305 @@
+//! The text of a test file in the reader's form.
+
+use crate::guard::{Asked, asked_of, push_line};
+use crate::lexemes::{Lexeme, lexemes, part};
+use crate::loops::{Loops, loops_of, push_next_turn};
+use crate::sheet::{Sheet, sheet_of};
+use crate::width::{has_great_number, is_wide, narrowed};
+use crate::words::inexact;
+use fs_kinds::Fault;
+use fs_litmus::{read_test, skip_title};
+use std::alloc::{AllocError, AllocFailed, Global};
+use thiserror::Error;
+
+/// Which forms are asked for by words of the command line.
+#[derive(Clone, Copy)]
+pub struct Forms {
+    /// Loops, in one turn.
+    pub unroll: bool,
+}
+
+/// A text in the reader's form.
+#[derive(Drop)]
+pub struct Plain {
+    pub text: Vec<u8>,
+    /// Its condition is `(G) /\ (C)`, behind `forall` `(G) => (C)`: the states that count are those with G.
+    pub is_guarded: bool,
+}
+
+/// Why there is no such text.
+#[derive(Clone, Copy, Debug, Error)]
+pub enum Unplain {
+    #[error("P{hart}:{at} may make a word that takes more than 32 bits with its sign, and of accesses of 64 bits no others are judged")]
+    Word { hart: usize, at: u8 },
+    #[error("it has a number that takes more than 32 bits with its sign, and of accesses of 64 bits no others are judged")]
+    Number,
+    #[error("there is no memory for it")]
+    NoMemory,
+}
+
+impl Unplain {
+    /// The fault of a run that ends by it.
+    pub fn fault(self) -> Fault {
+        match self {
+            Unplain::NoMemory => Fault::Memory,
+            _ => Fault::ReadFault,
+        }
+    }
+}
+
+impl From<AllocError> for Unplain {
+    fn from(_refused: AllocError) -> Unplain {
+        Unplain::NoMemory
+    }
+}
+
+impl<T: Drop> From<AllocFailed<T>> for Unplain {
+    fn from(_refused: AllocFailed<T>) -> Unplain {
+        Unplain::NoMemory
+    }
+}
+
+/// What becomes of a byte.
+#[derive(Clone, Copy)]
+enum Mark {
+    Kept,
+    Blank,
+    /// It begins a label in whose place the one of the next turn stands.
+    NextTurn,
+    Gone,
+}
+
+/// A file, and what of it is another in what is made.
+#[derive(Drop)]
+struct Making<'a> {
+    bytes: &'a [u8],
+    lexemes: &'a [Lexeme],
+    sheet: &'a Sheet,
+    asked: Asked,
+    loops: Option<Loops>,
+    marks: Vec<Mark>,
+    /// The first byte of the condition, and the first one behind it.
+    condition: (usize, usize),
+    /// The first byte of what stands behind `filter`, and the first one behind that.
+    filter: Option<(usize, usize)>,
+}
+
+/// The bytes of these lexemes: from the first one's on up to the end of the one before the second.
+fn span(lexemes: &[Lexeme], from: usize, to: usize) -> Option<(usize, usize)> {
+    if from >= to {
+        return None;
+    }
+    let first = lexemes.get(from)?;
+    let last = lexemes.get(to - 1)?;
+    Some((first.start, last.end))
+}
+
+fn set(marks: &mut [Mark], at: usize, mark: Mark) {
+    if at < marks.len() {
+        marks[at] = mark;
+    }
+}
+
+fn set_all(marks: &mut [Mark], from: usize, to: usize, mark: Mark) {
+    for at in from..to {
+        set(marks, at, mark);
+    }
+}
+
+fn mark_loops(marks: &mut [Mark], lexemes: &[Lexeme], loops: &Loops) {
+    for branch in &loops.branches {
+        if let Some(lexeme) = lexemes.get(*branch) {
+            set_all(marks, lexeme.start, lexeme.end, Mark::Gone);
+            set(marks, lexeme.start, Mark::NextTurn);
+        }
+    }
+    for label in &loops.labels {
+        // the label and its colon
+        if let Some((from, to)) = span(lexemes, *label, label.saturating_add(2)) {
+            set_all(marks, from, to, Mark::Blank);
+        }
+    }
+}
+
+impl<'a> Making<'a> {
+    /// What is to be made; nothing where the file is in the reader's form, or in none that is known.
+    fn new(
+        alloc: Global,
+        bytes: &'a [u8],
+        lexemes: &'a [Lexeme],
+        sheet: &'a Sheet,
+        forms: Forms,
+    ) -> Result<Option<Making<'a>>, AllocError> {
+        let Some(asked) = asked_of(bytes, lexemes, sheet.tail) else {
+            return Ok(None);
+        };
+        let Some(condition) = span(lexemes, asked.condition.0, asked.condition.1) else {
+            return Ok(None);
+        };
+        let loops = if forms.unroll {
+            loops_of(alloc, bytes, lexemes, sheet)?
+        } else {
+            None
+        };
+        if loops.is_none() && asked.filter.is_none() {
+            return Ok(None);
+        }
+        let mut marks = Vec::new(alloc);
+        for _ in bytes {
+            marks.push(Mark::Kept)?;
+        }
+        let mut filter = None;
+        if let Some((begin, end)) = asked.filter {
+            filter = span(lexemes, begin.saturating_add(1), end);
+            if filter.is_none() {
+                return Ok(None);
+            }
+            if let Some((from, to)) = span(lexemes, begin, end) {
+                set_all(&mut marks, from, to, Mark::Blank);
+            }
+        }
+        if let Some(found) = &loops {
+            mark_loops(&mut marks, lexemes, found);
+        }
+        Ok(Some(Making {
+            bytes,
+            lexemes,
+            sheet,
+            asked,
+            loops,
+            marks,
+            condition,
+            filter,
+        }))
+    }
+
+    /// Appends what stands before the condition.
+    fn push_guard(&self, alloc: Global, text: &mut Vec<u8>) -> Result<(), AllocError> {
+        text.push(b'(')?;
+        if let Some((from, to)) = self.filter {
+            text.push(b'(')?;
+            push_line(text, part(self.bytes, from, to))?;
+            text.push(b')')?;
+        }
+        if let Some(loops) = &self.loops {
+            loops.push_marks(alloc, text, self.filter.is_none())?;
+        }
+        text.extend_from_slice(if self.asked.is_forall {
+            b") => ("
+        } else {
+            b") /\\ ("
+        })
+    }
+
+    /// Appends the byte of this number, or what stands for it.
+    fn push_byte(&self, text: &mut Vec<u8>, at: usize, byte: u8) -> Result<(), AllocError> {
+        match self.marks.get(at) {
+            Some(Mark::Blank) if byte != b'\n' => text.push(b' ')?,
+            Some(Mark::NextTurn) => {
+                if let Some(loops) = &self.loops {
+                    push_next_turn(text, loops.unders)?;
+                }
+            }
+            Some(Mark::Gone) => {}
+            _ => text.push(byte)?,
+        }
+        Ok(())
+    }
+
+    /// The text. Linear in the file.
+    fn made(&self, alloc: Global) -> Result<Vec<u8>, AllocError> {
+        let mut text = Vec::new(alloc);
+        let rows_end = match self.lexemes.get(self.sheet.rows_end) {
+            Some(lexeme) => lexeme.end,
+            None => 0,
+        };
+        for (at, byte) in self.bytes.iter().enumerate() {
+            if at == rows_end {
+                if let Some(loops) = &self.loops {
+                    loops.push_rows(alloc, &mut text, self.sheet.columns)?;
+                }
+            }
+            if at == self.condition.0 {
+                self.push_guard(alloc, &mut text)?;
+            }
+            if at == self.condition.1 {
+                text.push(b')')?;
+            }
+            self.push_byte(&mut text, at, *byte)?;
+        }
+        if self.condition.1 == self.bytes.len() {
+            text.push(b')')?;
+        }
+        Ok(text)
+    }
+}
+
+/// The text with loops and `filter` in the reader's form, where it has some.
+fn unrolled(
+    alloc: Global,
+    bytes: &[u8],
+    lexemes: &[Lexeme],
+    sheet: &Sheet,
+    forms: Forms,
+) -> Result<Option<Plain>, AllocError> {
+    match Making::new(alloc, bytes, lexemes, sheet, forms)? {
+        Some(making) => Ok(Some(Plain {
+            text: making.made(alloc)?,
+            is_guarded: true,
+        })),
+        None => Ok(None),
+    }
+}
+
+/// Is the text, in which accesses of a word stand for those of 64 bits, one of a test that they make no other?
+fn check_words(alloc: Global, text: &[u8]) -> Result<(), Unplain> {
+    let test = match read_test(alloc, text) {
+        Ok(test) => test,
+        Err(Fault::Memory) => return Err(Unplain::NoMemory),
+        Err(_) => return Ok(()),
+    };
+    match inexact(alloc, &test) {
+        Ok(Some(place)) => Err(Unplain::Word {
+            hart: place.hart,
+            at: place.at,
+        }),
+        Ok(None) => Ok(()),
+        Err(Fault::Memory) => Err(Unplain::NoMemory),
+        Err(_) => Ok(()),
+    }
+}
+
+/// The text of a test file in the reader's form; nothing where it is in that, or in no form that is known.
+///
+/// - Where all accesses have 64 bits, accesses of a word stand in their place. It is refused where a run of the test
+///   makes a word that takes more than 32 bits with its sign.
+/// - A `filter` becomes part of the condition.
+/// - Where it is asked for, each branch that goes back ends its hart's attempt: it goes to the end of the code, past an
+///   instruction that writes 1 to a register which the file doesn't name, and the condition asks that this is 1.
+///
+/// Lines and positions of instructions stay. Linear in the bytes, and of accesses of 64 bits the cost of listing the
+/// test's runs.
+pub fn plain_form(alloc: Global, bytes: &[u8], forms: Forms) -> Result<Option<Plain>, Unplain> {
+    let Some(body) = skip_title(bytes) else {
+        return Ok(None);
+    };
+    let first = bytes.len().saturating_sub(body.text.len());
+    let lexemes = lexemes(alloc, bytes, first)?;
+    let sheet = sheet_of(alloc, bytes, &lexemes)?;
+    if !is_wide(bytes, &lexemes, &sheet) {
+        return Ok(unrolled(alloc, bytes, &lexemes, &sheet, forms)?);
+    }
+    if has_great_number(bytes, &lexemes) {
+        return Err(Unplain::Number);
+    }
+    let narrow = narrowed(alloc, bytes, &lexemes, &sheet)?;
+    let made = match unrolled(alloc, &narrow, &lexemes, &sheet, forms)? {
+        Some(plain) => plain,
+        None => Plain {
+            text: narrow,
+            is_guarded: false,
+        },
+    };
+    check_words(alloc, &made.text)?;
+    Ok(Some(made))
+}

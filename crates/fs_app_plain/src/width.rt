@@ -1,0 +1,98 @@
+//! Accesses of 64 bits, as accesses of a word.
+
+use crate::lexemes::{Lexeme, word_at};
+use crate::sheet::Sheet;
+use fs_litmus_tokens::number_of;
+use std::alloc::{AllocError, Global};
+
+/// How many bits an access has.
+#[derive(Clone, Copy, PartialEq)]
+enum Width {
+    Word,
+    Double,
+}
+
+fn is_atomic(stem: &str) -> bool {
+    matches!(stem, "lr" | "sc") || stem.starts_with("amo")
+}
+
+/// The width of a mnemonic as `lr.d` or `amoadd.w.aq`, and the number of its letter.
+fn width_of_atomic(mnemonic: &str) -> Option<(Width, usize)> {
+    let (stem, rest) = mnemonic.split_once('.')?;
+    if !is_atomic(stem) {
+        return None;
+    }
+    let letter = stem.len().saturating_add(1);
+    if rest == "d" || rest.starts_with("d.") {
+        return Some((Width::Double, letter));
+    }
+    if rest == "w" || rest.starts_with("w.") {
+        return Some((Width::Word, letter));
+    }
+    None
+}
+
+/// The width of what the instruction accesses, and the number of the letter in its mnemonic that says it.
+fn width_of(mnemonic: &str) -> Option<(Width, usize)> {
+    match mnemonic {
+        "ld" | "sd" => Some((Width::Double, 1)),
+        "lw" | "sw" | "lwu" => Some((Width::Word, 1)),
+        _ => width_of_atomic(mnemonic),
+    }
+}
+
+/// Does each access that there is have 64 bits?
+pub(crate) fn is_wide(text: &[u8], lexemes: &[Lexeme], sheet: &Sheet) -> bool {
+    let mut is_wide = false;
+    for instruction in &sheet.instructions {
+        match width_of(word_at(text, lexemes, instruction.mnemonic)) {
+            Some((Width::Word, _)) => return false,
+            Some((Width::Double, _)) => is_wide = true,
+            None => {}
+        }
+    }
+    is_wide
+}
+
+/// The text with accesses of a word for those of 64 bits: of each mnemonic one letter is another.
+pub(crate) fn narrowed(
+    alloc: Global,
+    text: &[u8],
+    lexemes: &[Lexeme],
+    sheet: &Sheet,
+) -> Result<Vec<u8>, AllocError> {
+    let mut made = Vec::from_slice(alloc, text)?;
+    for instruction in &sheet.instructions {
+        let Some(lexeme) = lexemes.get(instruction.mnemonic) else {
+            return Ok(made);
+        };
+        if let Some((Width::Double, letter)) = width_of(lexeme.word(text)) {
+            let at = lexeme.start.saturating_add(letter);
+            if at < made.len() {
+                made[at] = b'w';
+            }
+        }
+    }
+    Ok(made)
+}
+
+/// Is the word a number that takes more than 31 bits?
+fn is_great(word: &str) -> bool {
+    if !word.starts_with(|first: char| first.is_ascii_digit()) {
+        return false;
+    }
+    match number_of(word) {
+        Some(number) => number > 0x7fff_ffff,
+        None => true,
+    }
+}
+
+/// Does the text have a number that takes more than 31 bits, beside its sign?
+pub(crate) fn has_great_number(text: &[u8], lexemes: &[Lexeme]) -> bool {
+    for lexeme in lexemes {
+        if is_great(lexeme.word(text)) {
+            return true;
+        }
+    }
+    false
+}
