@@ -27,7 +27,7 @@ pub(crate) fn answer_audit_sites<'a, R: Files + Input + Eprint + AllocGlobal>(
     papers.read_prices(rt, audit.prices)?;
     check_prices(rt.alloc(), &papers.prices.bytes)?;
     let sources = sources(rt, &audit.files)?;
-    let mut blamed = Papers::new(rt.alloc());
+    let mut blamed = Papers::new(rt.alloc(), papers.forms);
     match audited(rt, audit, &sources, &papers.prices.bytes, &mut blamed) {
         Ok(output) => Ok(output),
         Err(fault) => failed(rt, audit.json, fault, voice, &blamed),

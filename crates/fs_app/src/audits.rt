@@ -14,8 +14,9 @@ use fs_app_audit_json::{FoundObject, object_of_file, objects_of, objects_output}
 use fs_app_audit_why::why_audit;
 use fs_app_command_line::{Audit, MOST_NODES};
 use fs_app_file_text::keeps;
-use fs_app_files::{Papers, message_of_file};
-use fs_app_io::{Missing, Output, Source, Status, sources, tell, write_whole};
+use fs_app_files::{Papers, Unusable, message_of_file, plain_text};
+use fs_app_io::{Output, Source, Status, sources, tell, write_whole};
+use fs_app_plain::{Forms, widened};
 use fs_app_why_kinds::Telling;
 use fs_kinds::{Fault, read_prices};
 use std::alloc::{AllocError, Global};
@@ -30,7 +31,7 @@ const AT_ONCE: usize = 4;
 #[derive(Drop)]
 struct Taken<'a> {
     name: &'a str,
-    file: Result<Vec<u8>, Missing>,
+    file: Result<Vec<u8>, Unusable>,
 }
 
 /// What is asked of each file.
@@ -42,6 +43,7 @@ struct Asked<'a> {
     limit: usize,
     /// Whether messages are wanted.
     explains: bool,
+    forms: Forms,
 }
 
 /// What was found of files, in their order, in lines or as objects, and messages of those that aren't tests, or weren't
@@ -207,9 +209,23 @@ fn mend_in_place<'a, R: Files + Input + Eprint + AllocGlobal>(
         return Ok(silent(rt.alloc(), kept_status(written.status)));
     }
     if written.status == Status::Denied {
-        write_whole(rt, word, written.text.as_bytes())?;
+        write_mended(rt, word, written.text.as_bytes(), papers.is_wide)?;
     }
     Ok(silent(rt.alloc(), Status::Success))
+}
+
+/// Writes the text, with accesses of 64 bits where those of a word stand for them.
+fn write_mended<R: Files + AllocGlobal>(
+    rt: &R,
+    word: &str,
+    text: &[u8],
+    is_wide: bool,
+) -> Result<(), Fault> {
+    if is_wide {
+        write_whole(rt, word, &widened(rt.alloc(), text)?)
+    } else {
+        write_whole(rt, word, text)
+    }
 }
 
 /// The status where a file stays as it is, of which `--write` would end with this one.
@@ -270,7 +286,7 @@ fn answer_files<'a, R: Files + Input + Eprint + AllocGlobal + Threads + Sync>(
 {
     papers.read_prices(rt, audit.prices)?;
     let _table = read_prices(rt.alloc(), &papers.prices.bytes)?;
-    let asked = asked_of(audit, voice, &papers.prices.bytes);
+    let asked = asked_of(audit, voice, papers);
     let batch = audit_all(rt, files, audit.jobs, asked)?;
     let Batch {
         files: found,
@@ -297,7 +313,7 @@ fn answer_objects<'a, R: Files + Input + Eprint + AllocGlobal + Threads + Sync>(
 {
     papers.read_prices(rt, audit.prices)?;
     let _table = read_prices(rt.alloc(), &papers.prices.bytes)?;
-    let asked = asked_of(audit, voice, &papers.prices.bytes);
+    let asked = asked_of(audit, voice, papers);
     let batch = audit_all(rt, files, audit.jobs, asked)?;
     let Batch {
         objects,
@@ -313,13 +329,14 @@ fn answer_objects<'a, R: Files + Input + Eprint + AllocGlobal + Threads + Sync>(
 }
 
 /// What is asked of each file, at these prices.
-fn asked_of<'p>(audit: &Audit<'_>, voice: Voice, prices: &'p [u8]) -> Asked<'p> {
+fn asked_of<'p>(audit: &Audit<'_>, voice: Voice, papers: &'p Papers<'_>) -> Asked<'p> {
     Asked {
-        prices,
+        prices: &papers.prices.bytes,
         is_anew: audit.anew,
         is_json: audit.json,
         limit: limit_of(audit),
         explains: voice.explains,
+        forms: papers.forms,
     }
 }
 
@@ -337,7 +354,7 @@ fn audit_all<'a, R: Files + Input + AllocGlobal + Threads + Sync>(
     }
     let mut found = Batch::new(alloc);
     for round in files.chunks(usize::from(jobs.max(1)) * AT_ONCE) {
-        let batches = read_batches(rt, round)?;
+        let batches = read_batches(rt, round, asked.forms)?;
         let said = thread::map_vec(
             rt,
             batches,
@@ -358,16 +375,16 @@ fn audit_in_turn<'a, R: Files + Input + AllocGlobal>(
 ) -> Result<Batch<'a>, Fault> {
     let mut found = Batch::new(rt.alloc());
     for source in files {
-        found.audit(rt.alloc(), take(rt, source), asked)?;
+        found.audit(rt.alloc(), take(rt, source, asked.forms), asked)?;
     }
     Ok(found)
 }
 
 /// The file, read.
-fn take<'a, R: Files + Input + AllocGlobal>(rt: &R, source: &'a Source) -> Taken<'a> {
+fn take<'a, R: Files + Input + AllocGlobal>(rt: &R, source: &'a Source, forms: Forms) -> Taken<'a> {
     Taken {
         name: source.name.as_str(),
-        file: source.read(rt),
+        file: plain_text(rt.alloc(), source.read(rt), forms).map(|plain| plain.text),
     }
 }
 
@@ -375,12 +392,13 @@ fn take<'a, R: Files + Input + AllocGlobal>(rt: &R, source: &'a Source) -> Taken
 fn read_batches<'a, R: Files + Input + AllocGlobal>(
     rt: &R,
     files: &'a [Source],
+    forms: Forms,
 ) -> Result<Vec<Vec<Taken<'a>>>, AllocError> {
     let mut batches = Vec::new(rt.alloc());
     for sources in files.chunks(AT_ONCE) {
         let mut batch = Vec::new(rt.alloc());
         for source in sources {
-            batch.push(take(rt, source))?;
+            batch.push(take(rt, source, forms))?;
         }
         batches.push(batch)?;
     }

@@ -38,6 +38,7 @@ use fs_app_io::{
     INPUT_LIMIT, Output, Status, has_stack, room_of, sources, tell, write_whole, write_within,
 };
 use fs_app_place_order::{run_order, run_place};
+use fs_app_plain::{Forms, widened};
 use fs_app_sites::{run_order_sites, run_place_sites};
 use fs_app_solve::{Found, run_solve, run_solve_alone};
 use fs_app_test::{Line, test_objects, test_report, vacuous_note};
@@ -130,9 +131,9 @@ fn status_of_run<
         return Err(Failure::NoPlace);
     }
     let voice = Voice::of(&request, is_terminal);
-    let mut papers = Papers::new(rt.alloc());
+    let mut papers = Papers::new(rt.alloc(), forms_of(&request));
     match answer(rt, &request.task, voice, &mut papers) {
-        Ok(output) => print(rt, &output),
+        Ok(output) => print(rt, &in_width(rt.alloc(), &request.task, output, &papers)?),
         Err(fault) => {
             if request.task.is_json() {
                 print_fault(rt, fault, &papers)?;
@@ -140,6 +141,45 @@ fn status_of_run<
             Err(failure_of_task(rt.alloc(), &request.task, fault, voice, &papers))
         }
     }
+}
+
+/// Which forms of tests are read. A text that keeps to the file's own has no other condition; nor has one that is held
+/// against a log.
+fn forms_of(request: &Request<'_>) -> Forms {
+    let keeps = match &request.task {
+        Task::Solve(solve) => solve.write,
+        Task::Audit(audit) => audit.write || audit.in_place,
+        Task::States(states) => states.log.is_some(),
+        _ => false,
+    };
+    Forms {
+        unroll: request.unroll,
+        filter: !keeps,
+    }
+}
+
+/// The output, where it is a test with accesses of 64 bits where those of a word stand for them.
+fn in_width(
+    alloc: Global,
+    task: &Task<'_>,
+    output: Output,
+    papers: &Papers<'_>,
+) -> Result<Output, Fault> {
+    let is_test = match task {
+        Task::Place(_) => true,
+        Task::Solve(solve) => solve.write,
+        Task::Audit(audit) => audit.write,
+        _ => false,
+    };
+    if !is_test || !papers.is_wide {
+        return Ok(output);
+    }
+    let Output { text, status } = output;
+    let wide = widened(alloc, text.as_bytes())?;
+    Ok(Output {
+        text: String::from_utf8(wide).unwrap_or(text),
+        status,
+    })
 }
 
 /// The failure of a run that a fault ended. Of words of sites messages know nothing but which sites there are.
@@ -273,7 +313,7 @@ fn answer<'a, R: Files + Input + Eprint + AllocGlobal + Clock + Threads + Wait +
         Task::Test(test) => answer_test(rt, test, voice, papers),
         Task::States(states) => match states.log {
             Some(path) => answer_log(rt, states, path, voice, papers),
-            None => answer_states(rt, states, voice),
+            None => answer_states(rt, states, voice, papers.forms),
         },
         Task::Place(place) => answer_place(rt, place, papers),
         Task::Order(order) => answer_order(rt, order, papers),
@@ -300,7 +340,7 @@ fn answer_test<'a, R: Files + Input + Eprint + AllocGlobal + Threads + Sync>(
 {
     match test.expect {
         Some(Expectations::List(path)) => answer_listed(rt, test, path, voice, papers),
-        _ => judged_tests(rt, test, voice, &mut Expecting::Comments),
+        _ => judged_tests(rt, test, voice, papers.forms, &mut Expecting::Comments),
     }
 }
 
@@ -319,7 +359,7 @@ fn answer_listed<'a, R: Files + Input + Eprint + AllocGlobal + Threads + Sync>(
     match expecting_of(rt.alloc(), &papers.evidence.bytes) {
         Ok(expecting) => {
             let mut expecting = expecting;
-            judged_tests(rt, test, voice, &mut expecting)
+            judged_tests(rt, test, voice, papers.forms, &mut expecting)
         }
         Err(ListError::Fault(fault)) => Err(fault),
         Err(error) => {
@@ -362,6 +402,7 @@ fn judged_tests<R: Files + Input + Eprint + AllocGlobal + Threads + Sync>(
     rt: &R,
     test: &Test<'_>,
     voice: Voice,
+    forms: Forms,
     expecting: &mut Expecting<'_>,
 ) -> Result<Output, Fault>
     ensures { IfOk result (AnswersTest test.now) }
@@ -370,6 +411,7 @@ fn judged_tests<R: Files + Input + Eprint + AllocGlobal + Threads + Sync>(
         messages: voice.explains,
         notes: test.json,
         tests: telling_of(test.why).is_some() || test.dot.is_some(),
+        forms,
     };
     let files = sources(rt, &test.files)?;
     let judged = judge_files(rt, &files, test.jobs, wants, expecting)?;

@@ -52,7 +52,7 @@ pub(crate) fn answer_sites<'a, R: Files + Input + Eprint + AllocGlobal + Threads
     papers.read_prices(rt, sites.prices)?;
     check_prices(rt.alloc(), &papers.prices.bytes)?;
     let sources = sources(rt, &sites.files)?;
-    let mut blamed = Papers::new(rt.alloc());
+    let mut blamed = Papers::new(rt.alloc(), papers.forms);
     match solved(
         rt,
         sites,
@@ -206,7 +206,7 @@ pub(crate) fn blame<'b>(
     fault: Fault,
     blamed: &mut Papers<'b>,
 ) -> Result<(), Fault> {
-    *blamed = Papers::new(alloc);
+    *blamed = Papers::new(alloc, blamed.forms);
     if !matches!(
         fault,
         Fault::TooManyTraces | Fault::Astray { .. } | Fault::TooManyCandidates
@@ -237,7 +237,7 @@ pub(crate) fn answer_check_sites<'a, R: Files + Input + Eprint + AllocGlobal>(
     check_prices(rt.alloc(), &papers.prices.bytes)?;
     papers.read_evidence(rt, check.certificate, CERTIFICATE_LIMIT)?;
     let sources = sources(rt, &check.files)?;
-    let mut blamed = Papers::new(rt.alloc());
+    let mut blamed = Papers::new(rt.alloc(), papers.forms);
     match checked(rt, &sources, check.free, papers, &mut blamed) {
         Ok(checked) => Ok(in_form(checked.output, checked.object, check.json)),
         Err(fault) => failed(rt, check.json, fault, voice, &blamed),

@@ -5,6 +5,7 @@ use fs_app_command_line::States;
 use fs_app_error_messages::explain_all_of_test;
 use fs_app_files::{Papers, fault_object};
 use fs_app_io::{Output, Source, Status, sources};
+use fs_app_plain::Forms;
 use fs_app_states::{
     Compared, Log, LogError, MOST_BYTES, Shown, compare, left_over, read_log, run_states,
 };
@@ -18,16 +19,12 @@ pub(crate) fn answer_states<R: Files + Input + Eprint + AllocGlobal>(
     rt: &R,
     states: &States<'_>,
     voice: Voice,
+    forms: Forms,
 ) -> Result<Output, Fault> {
     let mut output = nothing(rt);
-    let asked = Shown {
-        all: states.all,
-        witnesses: states.witnesses,
-        json: states.json,
-    };
     let files = sources(rt, &states.files)?;
     for source in &files {
-        add_states(rt, source, &states.fences, asked, voice, &mut output)?;
+        add_states(rt, source, states, voice, forms, &mut output)?;
     }
     Ok(output)
 }
@@ -44,18 +41,18 @@ fn nothing<R: AllocGlobal>(rt: &R) -> Output {
 fn add_states<'a, R: Files + Input + Eprint + AllocGlobal>(
     rt: &R,
     source: &'a Source,
-    fences: &'a [String],
-    asked: Shown,
+    states: &'a States<'a>,
     voice: Voice,
+    forms: Forms,
     output: &mut Output,
 ) -> Result<(), Fault> {
-    let mut papers = Papers::new(rt.alloc());
-    papers.fences = fences;
-    match read_states(rt, source, asked, &mut papers) {
+    let mut papers = Papers::new(rt.alloc(), forms);
+    papers.fences = &states.fences;
+    match read_states(rt, source, states, &mut papers) {
         Ok(block) => output.text.push_str(block.as_str())?,
         Err(fault) => {
             say_fault(rt, fault, voice, &papers)?;
-            add_fault(rt.alloc(), fault, asked.json, &papers, output)?;
+            add_fault(rt.alloc(), fault, states.json, &papers, output)?;
         }
     }
     Ok(())
@@ -81,10 +78,16 @@ fn add_fault(
 fn read_states<'a, R: Files + Input + AllocGlobal>(
     rt: &R,
     source: &'a Source,
-    asked: Shown,
+    states: &States<'_>,
     papers: &mut Papers<'a>,
 ) -> Result<String, Fault> {
     papers.read_source(rt, source)?;
+    let asked = Shown {
+        all: states.all,
+        witnesses: states.witnesses,
+        json: states.json,
+        guarded: papers.is_guarded,
+    };
     run_states(rt.alloc(), &papers.test.bytes, papers.fences, asked)
 }
 
@@ -125,7 +128,7 @@ pub(crate) fn answer_log<'a, R: Files + Input + Eprint + AllocGlobal>(
     match read_log(rt.alloc(), &papers.evidence.bytes) {
         Ok(log) => {
             let files = sources(rt, &states.files)?;
-            compare_files(rt, &files, &states.fences, &log, voice)
+            compare_files(rt, &files, &states.fences, &log, voice, papers.forms)
         }
         Err(LogError::Fault(fault)) => Err(fault),
         Err(error) => {
@@ -144,11 +147,12 @@ fn compare_files<'a, R: Files + Input + Eprint + AllocGlobal>(
     fences: &'a [String],
     log: &Log<'_>,
     voice: Voice,
+    forms: Forms,
 ) -> Result<Output, Fault> {
     let mut output = nothing(rt);
     let mut names = Vec::new(rt.alloc());
     for source in files {
-        if let Some(compared) = compare_file(rt, source, fences, log, voice)? {
+        if let Some(compared) = compare_file(rt, source, fences, log, voice, forms)? {
             output.text.push_str(compared.text.as_str())?;
             output.status = worse(output.status, compared.status);
             names.push(compared.name)?;
@@ -183,8 +187,9 @@ fn compare_file<'a, R: Files + Input + Eprint + AllocGlobal>(
     fences: &'a [String],
     log: &Log<'_>,
     voice: Voice,
+    forms: Forms,
 ) -> Result<Option<Compared>, Fault> {
-    let mut papers = Papers::new(rt.alloc());
+    let mut papers = Papers::new(rt.alloc(), forms);
     papers.fences = fences;
     match compared_file(rt, source, log, &mut papers) {
         Ok(compared) => Ok(Some(compared)),

@@ -11,8 +11,8 @@ ghost use Rattle.fs_app_audit_json.specs.Files.{AreObjectBlocks, IsObjectBlock, 
 
 use crate::answered::{run_anew_object, run_audit_object};
 use fs_app_audit::{Audited, Block, are_named, blocks_status};
-use fs_app_files::{note_of_file, note_or};
-use fs_app_io::{Missing, Output, Source, Status};
+use fs_app_files::{Unusable, note_of_file, note_or};
+use fs_app_io::{Output, Source, Status};
 use fs_app_test::{Kind, Line, Note, test_file, test_objects};
 use fs_kinds::Fault;
 use std::alloc::{AllocError, Global};
@@ -63,7 +63,7 @@ fn said_of(
 fn told(
     alloc: Global,
     name: &str,
-    file: Result<Vec<u8>, Missing>,
+    file: Result<Vec<u8>, Unusable>,
     prices: &[u8],
     is_anew: bool,
     limit: usize,
@@ -152,7 +152,7 @@ fn named(alloc: Global, name: &str, said: Audited) -> Result<Block, AllocError>
 fn block_of(
     alloc: Global,
     name: &str,
-    file: Result<Vec<u8>, Missing>,
+    file: Result<Vec<u8>, Unusable>,
     prices: &[u8],
     is_anew: bool,
     limit: usize,
@@ -175,7 +175,7 @@ fn block_of(
 pub fn object_of_file<'a>(
     alloc: Global,
     name: &str,
-    file: Result<Vec<u8>, Missing>,
+    file: Result<Vec<u8>, Unusable>,
     prices: &'a [u8],
     is_anew: bool,
     limit: usize,

@@ -454,6 +454,9 @@ const CHECK_SITES_HELP: &str =
 
 const FILES_AND_PRICES_HELP: &str = "Litmus tests, folders and @lists, and behind them PRICES";
 
+const UNROLL_HELP: &str =
+    "Read branches that go back, with 1: of executions those in which no loop does";
+
 const NODES_HELP: &str = "Most nodes that the search may make, 1 to 1000000";
 
 /// What is read of an option that may have a path and has none. No path has such a byte.
@@ -479,6 +482,8 @@ pub struct Request<'a> {
     pub quiet: bool,
     /// Whether a message is to explain a fault.
     pub verbose: bool,
+    /// Whether branches that go back are read: no loop takes a second turn.
+    pub unroll: bool,
 }
 
 /// What is to be done. Files go by their paths.
@@ -769,7 +774,13 @@ fn request_of<'a>(alloc: Global, matches: &ArgMatches<'a>) -> Result<Request<'a>
         task: task_of(alloc, name, found)?,
         quiet: found.get_flag("quiet"),
         verbose: found.get_flag("verbose"),
+        unroll: unrolls(name, found),
     })
+}
+
+/// Is `--unroll 1` said, by a command that reads tests?
+fn unrolls(name: &str, found: &ArgMatches<'_>) -> bool {
+    name != "completions" && found.get_one::<u8>("unroll").is_some()
 }
 
 /// What the command of this name is to do.
@@ -1084,6 +1095,8 @@ enum Form {
     Threads,
     /// How many nodes a search may make.
     Nodes,
+    /// How many turns each loop takes.
+    Turns,
 }
 
 /// An argument of a command. The value is what help calls it, where it has one.
@@ -1137,6 +1150,13 @@ const PARAMETERS: &[Parameter] = &[
         form: Form::Option,
         value: "FOLDER",
         help: DOT_HELP,
+    },
+    Parameter {
+        command: "test",
+        name: "unroll",
+        form: Form::Turns,
+        value: "N",
+        help: UNROLL_HELP,
     },
     Parameter {
         command: "solve",
@@ -1216,6 +1236,13 @@ const PARAMETERS: &[Parameter] = &[
         help: DOT_HELP,
     },
     Parameter {
+        command: "solve",
+        name: "unroll",
+        form: Form::Turns,
+        value: "N",
+        help: UNROLL_HELP,
+    },
+    Parameter {
         command: "audit",
         name: "FILE",
         form: Form::Files,
@@ -1286,6 +1313,13 @@ const PARAMETERS: &[Parameter] = &[
         help: AUDIT_SITES_HELP,
     },
     Parameter {
+        command: "audit",
+        name: "unroll",
+        form: Form::Turns,
+        value: "N",
+        help: UNROLL_HELP,
+    },
+    Parameter {
         command: "states",
         name: "FILE",
         form: Form::Words,
@@ -1321,6 +1355,13 @@ const PARAMETERS: &[Parameter] = &[
         help: LOG_HELP,
     },
     Parameter {
+        command: "states",
+        name: "unroll",
+        form: Form::Turns,
+        value: "N",
+        help: UNROLL_HELP,
+    },
+    Parameter {
         command: "place",
         name: "FILE",
         form: Form::Word,
@@ -1354,6 +1395,13 @@ const PARAMETERS: &[Parameter] = &[
         form: Form::OfSites,
         value: "",
         help: FREE_HELP,
+    },
+    Parameter {
+        command: "place",
+        name: "unroll",
+        form: Form::Turns,
+        value: "N",
+        help: UNROLL_HELP,
     },
     Parameter {
         command: "order",
@@ -1403,6 +1451,13 @@ const PARAMETERS: &[Parameter] = &[
         form: Form::Option,
         value: "FOLDER",
         help: ORDER_DOT_HELP,
+    },
+    Parameter {
+        command: "order",
+        name: "unroll",
+        form: Form::Turns,
+        value: "N",
+        help: UNROLL_HELP,
     },
     Parameter {
         command: "check",
@@ -1461,6 +1516,13 @@ const PARAMETERS: &[Parameter] = &[
         help: FREE_HELP,
     },
     Parameter {
+        command: "check",
+        name: "unroll",
+        form: Form::Turns,
+        value: "N",
+        help: UNROLL_HELP,
+    },
+    Parameter {
         command: "completions",
         name: "SHELL",
         form: Form::Shell,
@@ -1477,6 +1539,26 @@ struct Conflict {
 }
 
 const CONFLICTS: &[Conflict] = &[
+    Conflict {
+        command: "solve",
+        name: "unroll",
+        other: "write",
+    },
+    Conflict {
+        command: "audit",
+        name: "unroll",
+        other: "write",
+    },
+    Conflict {
+        command: "audit",
+        name: "unroll",
+        other: "in-place",
+    },
+    Conflict {
+        command: "states",
+        name: "unroll",
+        other: "log",
+    },
     Conflict {
         command: "test",
         name: "why",
@@ -1733,6 +1815,7 @@ fn argument<'a>(alloc: Global, parameter: &Parameter, many: bool) -> Arg<'a> {
         Form::Optional => optional(alloc, name, parameter.value, help),
         Form::Threads => threads(alloc, name, help),
         Form::Nodes => nodes(alloc, help),
+        Form::Turns => turns(alloc, help),
     }
 }
 
@@ -1807,4 +1890,9 @@ fn nodes<'a>(alloc: Global, help: &'a str) -> Arg<'a> {
     option(alloc, "nodes", "N", help)
         .value_parser(value_parser!(u32).range(1..=i64::from(MOST_NODES)))
         .default_value("1000000")
+}
+
+/// How many turns each loop takes.
+fn turns<'a>(alloc: Global, help: &'a str) -> Arg<'a> {
+    option(alloc, "unroll", "N", help).value_parser(value_parser!(u8).range(1..=1))
 }

@@ -5,7 +5,9 @@ ghost use Rattle.fs_app_files.specs.Judging.{AreJudged};
 
 use crate::expecting::Expecting;
 use crate::papers::{message_of_file, note_of_file, note_or};
-use fs_app_io::{Missing, Source};
+use crate::unusable::{Unusable, plain_text};
+use fs_app_io::Source;
+use fs_app_plain::Forms;
 use fs_app_test::{Expected, Kind, Line, Note, test_file};
 use fs_kinds::Fault;
 use std::alloc::{AllocError, Global};
@@ -21,7 +23,7 @@ const AT_ONCE: usize = 8;
 #[derive(Drop)]
 struct Taken<'a> {
     name: &'a str,
-    file: Result<Vec<u8>, Missing>,
+    file: Result<Vec<u8>, Unusable>,
     expected: Option<Expected>,
 }
 
@@ -34,6 +36,8 @@ pub struct Wants {
     pub notes: bool,
     /// Whether tests are kept of whose outcome more can be told: that it is allowed, or forbidden.
     pub tests: bool,
+    /// Which forms of a test are read beside the reader's own.
+    pub forms: Forms,
 }
 
 /// What is said of files, in their order: a line of each, and messages of those that aren't tests, or weren't read.
@@ -101,7 +105,7 @@ fn unread(alloc: Global, name: &str, fault: Fault) -> Result<Tested, Fault> {
 fn tested_file(
     alloc: Global,
     name: &str,
-    file: Result<Vec<u8>, Missing>,
+    file: Result<Vec<u8>, Unusable>,
     keeps: bool,
 ) -> Result<Tested, Fault> {
     match file {
@@ -235,7 +239,7 @@ fn judge_all<R: Files + Input + AllocGlobal + Threads + Sync>(
     }
     let mut judged = Batch::new(rt.alloc());
     for round in files.chunks(usize::from(jobs.max(1)) * AT_ONCE) {
-        let batches = read_batches(rt, round, expecting)?;
+        let batches = read_batches(rt, round, wants.forms, expecting)?;
         let alloc = rt.alloc();
         let said = thread::map_vec(
             rt,
@@ -256,7 +260,7 @@ fn judge_in_turn<R: Files + Input + AllocGlobal>(
 ) -> Result<Batch, Fault> {
     let mut judged = Batch::new(rt.alloc());
     for source in files {
-        judged.judge(rt.alloc(), take(rt, source, expecting)?, wants)?;
+        judged.judge(rt.alloc(), take(rt, source, wants.forms, expecting)?, wants)?;
     }
     Ok(judged)
 }
@@ -265,9 +269,10 @@ fn judge_in_turn<R: Files + Input + AllocGlobal>(
 fn take<'a, R: Files + Input + AllocGlobal>(
     rt: &R,
     source: &'a Source,
+    forms: Forms,
     expecting: &mut Expecting<'_>,
 ) -> Result<Taken<'a>, AllocError> {
-    let file = source.read(rt);
+    let file = plain_text(rt.alloc(), source.read(rt), forms).map(|plain| plain.text);
     let expected = match &file {
         Ok(bytes) => expecting.expected(rt.alloc(), bytes)?,
         Err(_) => None,
@@ -283,11 +288,12 @@ fn take<'a, R: Files + Input + AllocGlobal>(
 fn read_batches<'a, R: Files + Input + AllocGlobal>(
     rt: &R,
     files: &'a [Source],
+    forms: Forms,
     expecting: &mut Expecting<'_>,
 ) -> Result<Vec<Vec<Taken<'a>>>, AllocError> {
     let mut batches = Vec::new(rt.alloc());
     for batch in files.chunks(AT_ONCE) {
-        batches.push(read_batch(rt, batch, expecting)?)?;
+        batches.push(read_batch(rt, batch, forms, expecting)?)?;
     }
     Ok(batches)
 }
@@ -295,11 +301,12 @@ fn read_batches<'a, R: Files + Input + AllocGlobal>(
 fn read_batch<'a, R: Files + Input + AllocGlobal>(
     rt: &R,
     files: &'a [Source],
+    forms: Forms,
     expecting: &mut Expecting<'_>,
 ) -> Result<Vec<Taken<'a>>, AllocError> {
     let mut batch = Vec::new(rt.alloc());
     for source in files {
-        batch.push(take(rt, source, expecting)?)?;
+        batch.push(take(rt, source, forms, expecting)?)?;
     }
     Ok(batch)
 }

@@ -10,6 +10,7 @@ mod list_error;
 mod names;
 mod papers;
 mod rows;
+mod unusable;
 
 pub use expecting::Expecting;
 pub use faults::fault_object;
@@ -19,3 +20,4 @@ pub use list_error::ListError;
 pub use names::test_name;
 pub use papers::{Noted, Paper, Papers, message_of_file, note_of_file, note_or};
 pub use rows::{Row, read_rows};
+pub use unusable::{Unusable, plain_text};

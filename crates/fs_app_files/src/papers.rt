@@ -2,11 +2,13 @@
 
 ghost use Rattle.std.specs.Prelude.{◌≡◌, IfOk, OnOk};
 
+use crate::unusable::{Unusable, plain_text};
 use fs_app_error_messages::{
     Located, explain_all, explain_all_of_test, explain_fences, explain_json, explain_unread,
     locate, locate_fences, locate_json, locate_test,
 };
-use fs_app_io::{INPUT_LIMIT, Missing, Source, Unread, read_file, read_input};
+use fs_app_io::{INPUT_LIMIT, Missing, Source, read_file, read_input};
+use fs_app_plain::{Forms, Plain};
 use fs_app_test::Note;
 use fs_kinds::Fault;
 use std::alloc::{AllocError, Global};
@@ -28,18 +30,27 @@ pub struct Papers<'a> {
     pub evidence: Paper<'a>,
     /// The FENCE words.
     pub fences: &'a [String],
+    /// Which forms of a test are read beside the reader's own.
+    pub forms: Forms,
+    /// Whether accesses of a word stand in the test for those of 64 bits.
+    pub is_wide: bool,
+    /// Whether the test's condition has what its executions must meet, as `Plain` says.
+    pub is_guarded: bool,
     /// The name of the file that wasn't read, and why.
-    unread: Option<(&'a str, Missing)>,
+    unread: Option<(&'a str, Unusable)>,
 }
 
 impl<'a> Papers<'a> {
     /// Nothing was read yet.
-    pub fn new(alloc: Global) -> Self {
+    pub fn new(alloc: Global, forms: Forms) -> Self {
         Papers {
             test: no_paper(alloc),
             prices: no_paper(alloc),
             evidence: no_paper(alloc),
             fences: &[],
+            forms,
+            is_wide: false,
+            is_guarded: false,
             unread: None,
         }
     }
@@ -54,7 +65,8 @@ impl<'a> Papers<'a> {
         ensures kept { (self.new.prices ≡ self.old.prices) × (self.new.evidence ≡ self.old.evidence)
             × (self.new.fences ≡ self.old.fences) }
     {
-        self.test = self.paper(name, read_input(rt, name))?;
+        let text = plain_text(rt.alloc(), read_input(rt, name), self.forms);
+        self.test = self.plain_paper(name, text)?;
         Ok(())
     }
 
@@ -64,7 +76,8 @@ impl<'a> Papers<'a> {
         rt: &R,
         source: &'a Source,
     ) -> Result<(), Fault> {
-        self.test = self.paper(source.name.as_str(), source.read(rt))?;
+        let text = plain_text(rt.alloc(), source.read(rt), self.forms);
+        self.test = self.plain_paper(source.name.as_str(), text)?;
         Ok(())
     }
 
@@ -97,6 +110,32 @@ impl<'a> Papers<'a> {
         Ok(())
     }
 
+    /// The paper of this test; or the fault that there is none, and why is kept.
+    fn plain_paper(
+        &mut self,
+        name: &'a str,
+        file: Result<Plain, Unusable>,
+    ) -> Result<Paper<'a>, Fault>
+        ensures name { IfOk result (λ paper. paper.name.now ≡ name.now) }
+        ensures kept { (self.new.test ≡ self.old.test) × (self.new.prices ≡ self.old.prices)
+            × (self.new.evidence ≡ self.old.evidence) × (self.new.fences ≡ self.old.fences) }
+    {
+        match file {
+            Ok(plain) => {
+                self.is_wide = plain.is_wide;
+                self.is_guarded = plain.is_guarded;
+                Ok(Paper {
+                    name,
+                    bytes: plain.text,
+                })
+            }
+            Err(why) => {
+                self.unread = Some((name, why));
+                Err(why.fault())
+            }
+        }
+    }
+
     /// The paper of these bytes; or the fault that there are none, and why is kept.
     fn paper(&mut self, name: &'a str, file: Result<Vec<u8>, Missing>) -> Result<Paper<'a>, Fault>
         ensures name { IfOk result (λ paper. paper.name.now ≡ name.now) }
@@ -106,7 +145,7 @@ impl<'a> Papers<'a> {
         match file {
             Ok(bytes) => Ok(Paper { name, bytes }),
             Err(why) => {
-                self.unread = Some((name, why));
+                self.unread = Some((name, Unusable::Missing(why)));
                 Err(why.fault())
             }
         }
@@ -216,7 +255,7 @@ fn noted_json<'a>(
 
 fn noted_unread<'a>(
     alloc: Global,
-    unread: Option<(&'a str, Missing)>,
+    unread: Option<(&'a str, Unusable)>,
 ) -> Result<Option<Noted<'a>>, AllocError> {
     match unread {
         Some((file, why)) => {
@@ -244,7 +283,7 @@ fn explained_json(
 
 fn explained_unread(
     alloc: Global,
-    unread: Option<(&str, Missing)>,
+    unread: Option<(&str, Unusable)>,
 ) -> Result<Option<String>, AllocError> {
     match unread {
         Some((name, why)) => Ok(Some(unread_line(alloc, name, why)?)),
@@ -253,7 +292,7 @@ fn explained_unread(
 }
 
 /// The line that says why the file wasn't read.
-fn unread_line(alloc: Global, name: &str, why: Missing) -> Result<String, AllocError> {
+fn unread_line(alloc: Global, name: &str, why: Unusable) -> Result<String, AllocError> {
     let why = format!(in alloc; "{why}")?;
     explain_unread(alloc, name, why.as_str())
 }
@@ -263,11 +302,11 @@ fn unread_line(alloc: Global, name: &str, why: Missing) -> Result<String, AllocE
 pub fn message_of_file(
     alloc: Global,
     name: &str,
-    file: &Result<Vec<u8>, Missing>,
+    file: &Result<Vec<u8>, Unusable>,
 ) -> Option<String> {
     match file {
         Ok(bytes) => explain_all_of_test(alloc, name, bytes).unwrap_or(None),
-        Err(Missing::Unread(Unread::NoMemory)) => None,
+        Err(why) if why.fault() == Fault::Memory => None,
         Err(why) => unread_line(alloc, name, *why).ok(),
     }
 }
@@ -276,7 +315,7 @@ pub fn message_of_file(
 /// fs_app_error_messages.
 pub fn note_of_file(
     alloc: Global,
-    file: &Result<Vec<u8>, Missing>,
+    file: &Result<Vec<u8>, Unusable>,
 ) -> Result<Option<Note>, AllocError> {
     match file {
         Ok(bytes) => match locate_test(alloc, bytes)? {
@@ -311,7 +350,7 @@ fn note_of(found: Located) -> Note {
     }
 }
 
-fn note_of_missing(alloc: Global, why: Missing) -> Result<Note, AllocError> {
+fn note_of_missing(alloc: Global, why: Unusable) -> Result<Note, AllocError> {
     Ok(Note {
         line: None,
         column: None,

@@ -11,3 +11,4 @@ mod width;
 mod words;
 
 pub use plain::{Forms, Plain, Unplain, plain_form};
+pub use width::widened;

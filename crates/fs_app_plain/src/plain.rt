@@ -16,6 +16,8 @@ use thiserror::Error;
 pub struct Forms {
     /// Loops, in one turn.
     pub unroll: bool,
+    /// A `filter`.
+    pub filter: bool,
 }
 
 /// A text in the reader's form.
@@ -24,6 +26,8 @@ pub struct Plain {
     pub text: Vec<u8>,
     /// Its condition is `(G) /\ (C)`, behind `forall` `(G) => (C)`: the states that count are those with G.
     pub is_guarded: bool,
+    /// Accesses of a word stand in it for those of 64 bits.
+    pub is_wide: bool,
 }
 
 /// Why there is no such text.
@@ -141,7 +145,7 @@ impl<'a> Making<'a> {
         } else {
             None
         };
-        if loops.is_none() && asked.filter.is_none() {
+        if asked.filter.is_some() && !forms.filter || loops.is_none() && asked.filter.is_none() {
             return Ok(None);
         }
         let mut marks = Vec::new(alloc);
@@ -246,6 +250,7 @@ fn unrolled(
         Some(making) => Ok(Some(Plain {
             text: making.made(alloc)?,
             is_guarded: true,
+            is_wide: false,
         })),
         None => Ok(None),
     }
@@ -293,13 +298,14 @@ pub fn plain_form(alloc: Global, bytes: &[u8], forms: Forms) -> Result<Option<Pl
         return Err(Unplain::Number);
     }
     let narrow = narrowed(alloc, bytes, &lexemes, &sheet)?;
-    let made = match unrolled(alloc, &narrow, &lexemes, &sheet, forms)? {
-        Some(plain) => plain,
-        None => Plain {
-            text: narrow,
-            is_guarded: false,
-        },
+    let (text, is_guarded) = match unrolled(alloc, &narrow, &lexemes, &sheet, forms)? {
+        Some(plain) => (plain.text, true),
+        None => (narrow, false),
     };
-    check_words(alloc, &made.text)?;
-    Ok(Some(made))
+    check_words(alloc, &text)?;
+    Ok(Some(Plain {
+        text,
+        is_guarded,
+        is_wide: true,
+    }))
 }

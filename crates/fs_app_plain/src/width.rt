@@ -1,7 +1,8 @@
 //! Accesses of 64 bits, as accesses of a word.
 
-use crate::lexemes::{Lexeme, word_at};
-use crate::sheet::Sheet;
+use crate::lexemes::{Lexeme, lexemes, word_at};
+use crate::sheet::{Sheet, sheet_of};
+use fs_litmus::skip_title;
 use fs_litmus_tokens::number_of;
 use std::alloc::{AllocError, Global};
 
@@ -54,6 +55,30 @@ pub(crate) fn is_wide(text: &[u8], lexemes: &[Lexeme], sheet: &Sheet) -> bool {
     is_wide
 }
 
+/// The text with this letter in each mnemonic of an access of the width.
+fn relettered(
+    alloc: Global,
+    text: &[u8],
+    lexemes: &[Lexeme],
+    sheet: &Sheet,
+    width: Width,
+    letter: u8,
+) -> Result<Vec<u8>, AllocError> {
+    let mut made = Vec::from_slice(alloc, text)?;
+    for instruction in &sheet.instructions {
+        let Some(lexeme) = lexemes.get(instruction.mnemonic) else {
+            return Ok(made);
+        };
+        if let Some((found, number)) = width_of(lexeme.word(text)) {
+            let at = lexeme.start.saturating_add(number);
+            if found == width && at < made.len() {
+                made[at] = letter;
+            }
+        }
+    }
+    Ok(made)
+}
+
 /// The text with accesses of a word for those of 64 bits: of each mnemonic one letter is another.
 pub(crate) fn narrowed(
     alloc: Global,
@@ -61,19 +86,18 @@ pub(crate) fn narrowed(
     lexemes: &[Lexeme],
     sheet: &Sheet,
 ) -> Result<Vec<u8>, AllocError> {
-    let mut made = Vec::from_slice(alloc, text)?;
-    for instruction in &sheet.instructions {
-        let Some(lexeme) = lexemes.get(instruction.mnemonic) else {
-            return Ok(made);
-        };
-        if let Some((Width::Double, letter)) = width_of(lexeme.word(text)) {
-            let at = lexeme.start.saturating_add(letter);
-            if at < made.len() {
-                made[at] = b'w';
-            }
-        }
-    }
-    Ok(made)
+    relettered(alloc, text, lexemes, sheet, Width::Double, b'w')
+}
+
+/// The text of a test file with accesses of 64 bits for those of a word. Linear in the text.
+pub fn widened(alloc: Global, text: &[u8]) -> Result<Vec<u8>, AllocError> {
+    let first = match skip_title(text) {
+        Some(body) => text.len().saturating_sub(body.text.len()),
+        None => text.len(),
+    };
+    let lexemes = lexemes(alloc, text, first)?;
+    let sheet = sheet_of(alloc, text, &lexemes)?;
+    relettered(alloc, text, &lexemes, &sheet, Width::Word, b'd')
 }
 
 /// Is the word a number that takes more than 31 bits?

@@ -1,5 +1,5 @@
 -- What `states` prints of a test file, in herd7's form, the test's name as messages show it.
-use Rattle.std.specs.Prelude.{ℕ, ◌==◌, Bool, not, option_map, unwrap_or, List, [], ◌∷◌, ◌++◌, length, count_by, codes, if◌then◌else◌}
+use Rattle.std.specs.Prelude.{ℕ, ◌==◌, Bool, true, not, filter, option_map, unwrap_or, List, [], ◌∷◌, ◌++◌, length, count_by, codes, if◌then◌else◌}
 use Rattle.std.specs.Fmt.{decimal}
 use Rattle.std.specs.List.{flat_map}
 use Rattle.std.specs.Path.{rsplit_once}
@@ -9,7 +9,7 @@ use Rattle.fs_model.specs.declared.test.Test.{Test}
 use Rattle.fs_model.specs.declared.test.Location as locations
 use Rattle.fs_model.specs.declared.test.Quantifier.{Quantifier}
 use Rattle.fs_model.specs.declared.test.Quantifier.TheVariants.{Exists, NotExists, Forall}
-use Rattle.fs_model.specs.Condition.{Condition, condition_of}
+use Rattle.fs_model.specs.Condition.{Condition, condition_of, Both, Either, Deny}
 use Rattle.fs_model.specs.Fenced.{fenced}
 use Rattle.fs_model.specs.Printed.{ended, printed}
 use Rattle.fs_model.specs.Shows.{holds}
@@ -34,6 +34,16 @@ word_in (column ∷ columns) (word ∷ words) place =
 abbrev pub is_true : List Column → Condition → (words : List ℕ) → Bool
 is_true columns c words =
     holds (λ hart reg. word_in columns words (Register hart reg)) (λ location. word_in columns words (Location location)) c
+
+-- a state counts by the condition: the left side of (G) /\ (C), or of (G) => (C), which is ~(G) \/ (C), is true of it
+abbrev pub counts : List Column → Condition → (words : List ℕ) → Bool
+counts columns (Both g c) words = is_true columns g words
+counts columns (Either (Deny g) c) words = is_true columns g words
+counts columns _ words = true
+
+-- the states that count: all, unless the condition is guarded
+abbrev pub counted : List Column → Condition → (is_guarded : Bool) → List State → List State
+counted columns c is_guarded states = if is_guarded then filter (λ state. counts columns c state.words) states else states
 
 -- how many states make it true
 abbrev pub positive : List Column → Condition → List State → ℕ

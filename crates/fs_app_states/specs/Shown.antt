@@ -19,13 +19,13 @@ use Rattle.fs_app_states.specs.declared.asked.Shown.{Shown}
 use Rattle.fs_app_states.specs.declared.columns.Column.{Column}
 use Rattle.fs_app_states.specs.Places.{AreColumns, IsColumnsFault}
 use Rattle.fs_app_states.specs.Objects.{shown_text}
-use Rattle.fs_app_states.specs.Report.{is_true}
+use Rattle.fs_app_states.specs.Report.{counted, is_true}
 
 abbrev pub places_of : List Column → List Place
 places_of = map (λ column. column.place)
 
--- The bytes read as a test, the words as a placement of its slots, and the text is of all states of the test with these
--- fences, each with an execution that ends in it.
+-- The bytes read as a test, the words as a placement of its slots, and the text is of the states of the test with
+-- these fences that count; of each there is an execution that ends in it.
 pub record IsStatesText (test : List ℕ) (fences : List (List ℕ)) (asked : Shown) (text : List ℕ) : Type 0 where
   pub the_test : Test
   pub reads : Reads test the_test
@@ -39,7 +39,7 @@ pub record IsStatesText (test : List ℕ) (fences : List (List ℕ)) (asked : Sh
   -- what the condition says of a state, it says of each execution that ends in it
   pub meant : (e : Execution) → is_true columns (condition_of the_test.condition) (state_of the_test (places_of columns) e)
       ≡ holds (final_register the_test e.traces) (final_word (pre_execution the_test e.traces) e.order) (condition_of the_test.condition)
-  pub is_text : text ≡ shown_text the_test placement columns asked states
+  pub is_text : text ≡ shown_text the_test placement columns asked (counted columns (condition_of the_test.condition) asked.guarded states)
 
 -- The first fault: of the test; else of `locations`; else of the words; else of its runs, its candidates or its states.
 -- Want of memory may come in place of any answer.

@@ -9,4 +9,6 @@ pub struct Shown {
     pub witnesses: bool,
     /// A JSON object in place of lines.
     pub json: bool,
+    /// Of the condition, `(G) /\ (C)` or behind `forall` `(G) => (C)`, the left side says which states count.
+    pub guarded: bool,
 }

@@ -6,6 +6,7 @@
 mod asked;
 mod columns;
 mod comparison;
+mod counted;
 mod error;
 mod finding;
 mod left;

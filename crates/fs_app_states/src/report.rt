@@ -50,7 +50,7 @@ fn word_in(columns: &[Column], words: &[u32], place: &Place) -> u32
 
 /// Is the condition, without its quantifier, true of the state? Recursion goes as deep as the condition, whose depth
 /// is within the limit.
-fn is_true(columns: &[Column], condition: &Outcome, words: &[u32]) -> bool
+pub(crate) fn is_true(columns: &[Column], condition: &Outcome, words: &[u32]) -> bool
     ensures { result ≡ is_true columns.now (condition_of condition.now) words.now }
 {
     match condition {

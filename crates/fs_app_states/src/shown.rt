@@ -13,6 +13,7 @@ ghost use Rattle.fs_app_states.specs.inner.Parts.{IsOfStates};
 
 use crate::asked::Shown;
 use crate::columns::Column;
+use crate::counted::counted;
 use crate::objects::shown_text;
 use crate::places::columns;
 use fs_judge_final_states::{Place, State, states};
@@ -28,7 +29,8 @@ use std::sync::Arc;
 /// registers by hart and number, and then locations in the order in which they are declared; where `all` is asked for
 /// also each register that an instruction of its hart writes, and all locations. The states rise by their words,
 /// those at the first place before the others. `Positive` and `Negative` count the states that make the condition,
-/// without its quantifier, true and false.
+/// without its quantifier, true and false. Where the condition is guarded only states count that its left side is true
+/// of, `G` of `(G) /\ (C)`, or behind `forall` of `(G) => (C)`.
 ///
 /// The first fault in this order: those of a test file by number and then line; `Syntax` of an item of `locations`;
 /// `BadFence`; `TooManyTraces` and `Astray`; `TooManyCandidates`. `Memory` may come in place of any answer. The cost
@@ -135,6 +137,7 @@ fn placed_states(
     ensures err { IfErr result (λ f. f ≢ Memory
         → IsStatesFault (arc_value test.now) placement.now (places_of columns.now) f) }
 {
-    let states = states_at(alloc, test, placement, columns)?;
+    let all = states_at(alloc, test, placement, columns)?;
+    let states = counted(alloc, test, columns, asked.guarded, all)?;
     shown_text(alloc, test, placement, columns, asked, states.as_slice())
 }
