@@ -67,11 +67,11 @@ test_placed file test why said witness a s =
 
 -- what is printed of the states, of the program with its fences
 states_there : (file : List ℕ) (words : List (List ℕ)) (all : Bool) (text : List ℕ)
-    (s : IsStatesText file words (record { all = all; witnesses = false; json = false }) text)
+    (s : IsStatesText file words (record { all = all; witnesses = false; json = false; guarded = false }) text)
     → ListsStates (fenced (program_of s.the_test) s.placement) text
 states_there file words all text s = lists file s.the_test s.placement all s.columns s.states text s.are_columns s.are_states s.is_text
 
-pub states_printed : (test text : List ℕ) (all : Bool) → IsStatesText test [] (record { all = all; witnesses = false; json = false }) text → StatesAreTrue test text
+pub states_printed : (test text : List ℕ) (all : Bool) → IsStatesText test [] (record { all = all; witnesses = false; json = false; guarded = false }) text → StatesAreTrue test text
 states_printed test text all s =
     let t = s.the_test in
     let none : s.placement ≡ all_with None (slots t) = nothing_placed (slots t) s.placement s.placed in
@@ -80,7 +80,7 @@ states_printed test text all s =
     of_read test (λ u o. ListsStates u text) t s.reads (subst (λ (u : Program). ListsStates u text) stays (states_there test [] all text s))
 
 pub states_placed : (file test text : List ℕ) (words : List (List ℕ)) (all : Bool) → IsFencedText file None words test
-    → IsStatesText file words (record { all = all; witnesses = false; json = false }) text → StatesAreTrue test text
+    → IsStatesText file words (record { all = all; witnesses = false; json = false; guarded = false }) text → StatesAreTrue test text
 states_placed file test text words all a s =
     let t = s.the_test in
     let f = a.the_test in

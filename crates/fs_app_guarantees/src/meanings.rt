@@ -94,8 +94,8 @@ pub fn test_is_true()
 /// `place` prints with the same words.
 pub fn states_are_true()
     ensures printed { (test text : List ℕ) (all : Bool)
-        → IsStatesText test [] (record { all = all; witnesses = false; json = false }) text → StatesAreTrue test text }
+        → IsStatesText test [] (record { all = all; witnesses = false; json = false; guarded = false }) text → StatesAreTrue test text }
     ensures placed { (file test text : List ℕ) (words : List (List ℕ)) (all : Bool) → IsFencedText file None words test
-        → IsStatesText file words (record { all = all; witnesses = false; json = false }) text
+        → IsStatesText file words (record { all = all; witnesses = false; json = false; guarded = false }) text
         → StatesAreTrue test text }
 {}

@@ -102,7 +102,7 @@ pub fn widened(alloc: Global, text: &[u8]) -> Result<Vec<u8>, AllocError> {
 
 /// Is the word a number that takes more than 31 bits?
 fn is_great(word: &str) -> bool {
-    if !word.starts_with(|first: char| first.is_ascii_digit()) {
+    if !word.starts_with("0x") && !word.bytes().all(|byte| byte.is_ascii_digit()) {
         return false;
     }
     match number_of(word) {

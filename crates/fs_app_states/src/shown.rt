@@ -1,6 +1,6 @@
 //! What `states` answers.
 
-ghost use Rattle.std.specs.Prelude.{◌≡◌, ◌≢◌, All, map, IfOk, IfErr, string_bytes};
+ghost use Rattle.std.specs.Prelude.{◌≡◌, ◌≢◌, All, map, IfOk, IfErr, IsOkUnless, string_bytes};
 ghost use Rattle.std.specs.Arc.{arc_value};
 ghost use Rattle.fs_kinds.specs.declared.fault.Fault.TheVariants.{Memory};
 ghost use Rattle.fs_kinds.specs.Placement.{slots_of};
@@ -8,6 +8,9 @@ ghost use Rattle.fs_litmus.specs.Reads.{Reads};
 ghost use Rattle.fs_model.specs.Slots.{slots};
 ghost use Rattle.fs_model.specs.Test.{IsBounded, IsStart, IsTest};
 ghost use Rattle.fs_judge_final_states.specs.States.{AreStates, ArePlacesOf, IsShownState, IsStatesFault, words_of};
+ghost use Rattle.fs_model.specs.Condition.{condition_of};
+ghost use Rattle.fs_app_states.specs.Objects.{shown_text};
+ghost use Rattle.fs_app_states.specs.Report.{counted};
 ghost use Rattle.fs_app_states.specs.Shown.{places_of, IsStatesText, IsFirstStatesFault};
 ghost use Rattle.fs_app_states.specs.inner.Parts.{IsOfStates};
 
@@ -120,6 +123,25 @@ fn states_at(
     states(alloc, test, placement, &places)
 }
 
+/// What is printed of these states, of which those are shown that count.
+fn counted_text(
+    alloc: Global,
+    test: &Test,
+    placement: &Placement,
+    columns: &[Column],
+    asked: Shown,
+    states: List<State>,
+) -> Result<String, Fault>
+    requires bounded { IsBounded test.now }
+    requires placement { slots_of placement.now ≡ slots test.now }
+    ensures ok { IfOk result (λ text. string_bytes text ≡ shown_text test.now placement.now columns.now asked
+        (counted columns.now (condition_of test.now.condition) asked.guarded states)) }
+    ensures err { IsOkUnless result Memory }
+{
+    let states = counted(alloc, test, columns, asked.guarded, states)?;
+    shown_text(alloc, test, placement, columns, asked, states.as_slice())
+}
+
 /// The same in print.
 fn placed_states(
     alloc: Global,
@@ -137,7 +159,6 @@ fn placed_states(
     ensures err { IfErr result (λ f. f ≢ Memory
         → IsStatesFault (arc_value test.now) placement.now (places_of columns.now) f) }
 {
-    let all = states_at(alloc, test, placement, columns)?;
-    let states = counted(alloc, test, columns, asked.guarded, all)?;
-    shown_text(alloc, test, placement, columns, asked, states.as_slice())
+    let states = states_at(alloc, test, placement, columns)?;
+    counted_text(alloc, test, placement, columns, asked, states)
 }
