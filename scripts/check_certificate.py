@@ -200,10 +200,11 @@ SIGNS = {*'{};|,:=()[]~-*&<>!', '/\\', '\\/'}
 FAULTS = {3: 'Syntax', 4: 'UnknownInstr', 5: 'BadAnnotation', 6: 'BadLabel', 7: 'BadInit'}
 
 
-# Is this token a number, any word, a name?
+# Is this token a number, any word, a name, the mnemonic of an access?
 is_number = re.compile('0x[0-9A-Fa-f]+|[0-9]+').fullmatch
 is_word = re.compile('[A-Za-z0-9_.]').match
 is_name = re.compile('[A-Za-z_][A-Za-z0-9_]*').fullmatch
+is_access = re.compile(r'([ls]|(?:lr|sc|amo[a-z]+)\.)([wd])(u|\..*|)').fullmatch     # the second part is its width
 
 
 def number_of(token):
@@ -211,6 +212,16 @@ def number_of(token):
     base = 16 if token.startswith('0x') else 10
     digits = token.removeprefix('0x').lstrip('0') or '0'
     return int(digits, base) if len(digits) <= 20 else 10 ** 20
+
+
+def narrow(columns):
+    """Puts accesses of a word in the place of those of 64 bits, where there are no others (FORMAT 22)."""
+    cells = [words for column in columns for words, _ in column]
+    starts = [next(at for at in itertools.count(0, 2) if words[at + 1:at + 2] != [':']) for words in cells]
+    accesses = [(words, at, is_access(words[at])) for words, at in zip(cells, starts) if at < len(words)]
+    if {access[2] for _, _, access in accesses if access} == {'d'}:
+        for words, at, access in accesses:
+            words[at] = access[1] + 'w' + access[3] if access else words[at]
 
 
 def take_operand(operand, words, made):
@@ -426,6 +437,7 @@ class TestReader:
     def read(self):
         test, entries = self.test, self.entries()
         columns = self.columns()
+        narrow(columns)
         test.registers = [[0] * 32 for _ in columns]
         if self.accept('locations'):
             self.expect('[')

@@ -1,7 +1,7 @@
 //! The branches of a test file that go back.
 
 use crate::lexemes::{Lexeme, word_at};
-use crate::sheet::{Instruction, Label, Sheet};
+use crate::sheet::{Instruction, Label, MOST_HARTS, Sheet};
 use fs_instr::Reg;
 use std::alloc::{AllocError, Global};
 
@@ -101,13 +101,34 @@ fn goes_back_to(
     }
 }
 
-/// Does a branch that doesn't go back end in this label?
-fn is_ahead(text: &[u8], lexemes: &[Lexeme], sheet: &Sheet, label: &Label) -> bool {
-    let name = word_at(text, lexemes, label.name);
+/// For each instruction the label to which it goes back, if it does.
+fn labels_behind(
+    alloc: Global,
+    text: &[u8],
+    lexemes: &[Lexeme],
+    sheet: &Sheet,
+) -> Result<Vec<Option<Label>>, AllocError> {
+    let mut found = Vec::new(alloc);
     for instruction in &sheet.instructions {
+        found.push(goes_back_to(text, lexemes, &sheet.labels, instruction))?;
+    }
+    Ok(found)
+}
+
+/// Does an instruction that doesn't go back end in this label?
+fn is_ahead(
+    text: &[u8],
+    lexemes: &[Lexeme],
+    sheet: &Sheet,
+    behind: &[Option<Label>],
+    label: &Label,
+) -> bool {
+    let name = word_at(text, lexemes, label.name);
+    for (number, instruction) in sheet.instructions.iter().enumerate() {
+        let goes_back = matches!(behind.get(number), Some(Some(_)));
         if instruction.hart == label.hart
+            && !goes_back
             && word_at(text, lexemes, instruction.last) == name
-            && goes_back_to(text, lexemes, &sheet.labels, instruction).is_none()
         {
             return true;
         }
@@ -155,11 +176,12 @@ pub(crate) fn loops_of(
 ) -> Result<Option<Loops>, AllocError> {
     let mut branches = Vec::new(alloc);
     let mut labels = Vec::new(alloc);
-    let mut harts = Vec::from_array(alloc, [false; crate::sheet::MOST_HARTS])?;
-    for instruction in &sheet.instructions {
-        if let Some(label) = goes_back_to(text, lexemes, &sheet.labels, instruction) {
+    let mut harts = Vec::from_array(alloc, [false; MOST_HARTS])?;
+    let behind = labels_behind(alloc, text, lexemes, sheet)?;
+    for (number, instruction) in sheet.instructions.iter().enumerate() {
+        if let Some(Some(label)) = behind.get(number) {
             branches.push(instruction.last)?;
-            if !is_ahead(text, lexemes, sheet, &label) {
+            if !is_ahead(text, lexemes, sheet, &behind, label) {
                 labels.push(label.name)?;
             }
             if instruction.hart < harts.len() {

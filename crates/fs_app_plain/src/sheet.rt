@@ -6,8 +6,11 @@ use std::alloc::{AllocError, Global};
 /// More harts no test has.
 pub(crate) const MOST_HARTS: usize = 8;
 
-/// So many cells, and so many labels, are looked at.
-const MOST_CELLS: usize = 4096;
+/// More instructions no test has: 8 harts have 32 each.
+const MOST_INSTRUCTIONS: usize = 256;
+
+/// So many labels are looked at.
+const MOST_LABELS: usize = 1024;
 
 /// An instruction, by numbers of lexemes: its mnemonic, and the last one of its cell.
 #[derive(Clone, Copy)]
@@ -136,8 +139,8 @@ impl Sheet {
         }
         Ok(
             hart < MOST_HARTS
-                && self.labels.len() < MOST_CELLS
-                && self.instructions.len() < MOST_CELLS,
+                && self.labels.len() <= MOST_LABELS
+                && self.instructions.len() <= MOST_INSTRUCTIONS,
         )
     }
 
