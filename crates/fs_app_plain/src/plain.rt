@@ -33,9 +33,9 @@ pub struct Plain {
 /// Why there is no such text.
 #[derive(Clone, Copy, Debug, Error)]
 pub enum Unplain {
-    #[error("P{hart}:{at} may make a word that takes more than 32 bits with its sign, and of accesses of 64 bits no others are judged")]
+    #[error("P{hart}:{at} may make a word of more than 32 bits: with accesses of 64 bits none is judged")]
     Word { hart: usize, at: u8 },
-    #[error("it has a number that takes more than 32 bits with its sign, and of accesses of 64 bits no others are judged")]
+    #[error("it has a number of more than 31 bits: with accesses of 64 bits none is judged")]
     Number,
     #[error("there is no memory for it")]
     NoMemory,
