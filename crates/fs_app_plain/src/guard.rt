@@ -37,6 +37,20 @@ fn condition_end(text: &[u8], lexemes: &[Lexeme]) -> usize {
     }
 }
 
+/// Is each parenthesis between these lexemes closed there, and none that isn't open?
+pub(crate) fn is_balanced(text: &[u8], lexemes: &[Lexeme], from: usize, to: usize) -> bool {
+    let mut depth: usize = 0;
+    for number in from..to {
+        match word_at(text, lexemes, number) {
+            "(" => depth = depth.saturating_add(1),
+            ")" if depth == 0 => return false,
+            ")" => depth -= 1,
+            _ => {}
+        }
+    }
+    depth == 0
+}
+
 /// The condition of a text whose rows end before this lexeme; nothing where there is none.
 pub(crate) fn asked_of(text: &[u8], lexemes: &[Lexeme], from: usize) -> Option<Asked> {
     let mut tail = Tail {
@@ -63,7 +77,9 @@ pub(crate) fn asked_of(text: &[u8], lexemes: &[Lexeme], from: usize) -> Option<A
         } else if word == "filter" && tail.filter.is_none() && !tail.is_bracketed {
             tail.filter = Some(number);
         } else if word == "locations" && tail.filter.is_some() && !tail.is_bracketed {
-            tail.filter_end = Some(number);
+            if word_at(text, lexemes, number.saturating_add(1)) == "[" {
+                tail.filter_end = Some(number);
+            }
         }
     }
     None

@@ -50,15 +50,21 @@ fn is_branch(mnemonic: &str) -> bool {
     )
 }
 
-/// Does a branch that names it so go to this label? A number is named with `b` behind it, by a branch that goes back.
-fn is_named(label: &str, word: &str) -> bool {
-    if label == word {
-        return true;
-    }
-    match word.strip_suffix('b') {
-        Some(number) => number == label && label.bytes().all(|byte| byte.is_ascii_digit()),
+fn is_number(label: &str) -> bool {
+    label.bytes().all(|byte| byte.is_ascii_digit())
+}
+
+/// Does a branch call this label, a number, with the letter behind it?
+fn is_numbered(label: &str, word: &str, letter: char) -> bool {
+    match word.strip_suffix(letter) {
+        Some(number) => number == label && is_number(label),
         None => false,
     }
+}
+
+/// May a branch that names it so go back to this label?
+fn is_named(label: &str, word: &str) -> bool {
+    is_numbered(label, word, 'b') || label == word && !is_number(label)
 }
 
 /// The one label of the hart that the branch names; nothing where there are none or several.
@@ -126,9 +132,10 @@ fn is_ahead(
     let name = word_at(text, lexemes, label.name);
     for (number, instruction) in sheet.instructions.iter().enumerate() {
         let goes_back = matches!(behind.get(number), Some(Some(_)));
+        let word = word_at(text, lexemes, instruction.last);
         if instruction.hart == label.hart
             && !goes_back
-            && word_at(text, lexemes, instruction.last) == name
+            && (word == name || is_numbered(name, word, 'f'))
         {
             return true;
         }

@@ -1,6 +1,6 @@
 //! The text of a test file in the reader's form.
 
-use crate::guard::{Asked, asked_of, push_line};
+use crate::guard::{Asked, asked_of, is_balanced, push_line};
 use crate::lexemes::{Lexeme, lexemes, part};
 use crate::loops::{Loops, loops_of, push_next_turn};
 use crate::sheet::{Sheet, sheet_of};
@@ -37,6 +37,8 @@ pub enum Unplain {
     Word { hart: usize, at: u8 },
     #[error("it has a number of more than 31 bits: with accesses of 64 bits none is judged")]
     Number,
+    #[error("with accesses of 64 bits its runs must be known, and they can't be listed: {0}")]
+    Runs(Fault),
     #[error("there is no memory for it")]
     NoMemory,
 }
@@ -140,6 +142,9 @@ impl<'a> Making<'a> {
         let Some(condition) = span(lexemes, asked.condition.0, asked.condition.1) else {
             return Ok(None);
         };
+        if !is_balanced(bytes, lexemes, asked.condition.0, asked.condition.1) {
+            return Ok(None);
+        }
         let loops = if forms.unroll {
             loops_of(alloc, bytes, lexemes, sheet)?
         } else {
@@ -155,7 +160,7 @@ impl<'a> Making<'a> {
         let mut filter = None;
         if let Some((begin, end)) = asked.filter {
             filter = span(lexemes, begin.saturating_add(1), end);
-            if filter.is_none() {
+            if filter.is_none() || !is_balanced(bytes, lexemes, begin, end) {
                 return Ok(None);
             }
             if let Some((from, to)) = span(lexemes, begin, end) {
@@ -181,7 +186,7 @@ impl<'a> Making<'a> {
     fn push_guard(&self, alloc: Global, text: &mut Vec<u8>) -> Result<(), AllocError> {
         text.push(b'(')?;
         if let Some((from, to)) = self.filter {
-            text.push(b'(')?;
+            text.extend_from_slice(b"( ")?; // no comment begins with it
             push_line(text, part(self.bytes, from, to))?;
             text.push(b')')?;
         }
@@ -189,9 +194,9 @@ impl<'a> Making<'a> {
             loops.push_marks(alloc, text, self.filter.is_none())?;
         }
         text.extend_from_slice(if self.asked.is_forall {
-            b") => ("
+            b") => ( "
         } else {
-            b") /\\ ("
+            b") /\\ ( "
         })
     }
 
@@ -270,19 +275,19 @@ fn check_words(alloc: Global, text: &[u8]) -> Result<(), Unplain> {
         }),
         Ok(None) => Ok(()),
         Err(Fault::Memory) => Err(Unplain::NoMemory),
-        Err(_) => Ok(()),
+        Err(fault) => Err(Unplain::Runs(fault)),
     }
 }
 
 /// The text of a test file in the reader's form; nothing where it is in that, or in no form that is known.
 ///
 /// - Where all accesses have 64 bits, accesses of a word stand in their place. It is refused where a run of the test
-///   makes a word that takes more than 32 bits with its sign.
+///   makes a word that takes more than 32 bits with its sign, or its runs can't be listed.
 /// - A `filter` becomes part of the condition.
 /// - Where it is asked for, each branch that goes back ends its hart's attempt: it goes to the end of the code, past an
 ///   instruction that writes 1 to a register which the file doesn't name, and the condition asks that this is 1.
 ///
-/// Lines and positions of instructions stay. Linear in the bytes, and of accesses of 64 bits the cost of listing the
+/// Positions of instructions stay, and lines but for those of a `filter`. Linear in the bytes, and of accesses of 64 bits the cost of listing the
 /// test's runs.
 pub fn plain_form(alloc: Global, bytes: &[u8], forms: Forms) -> Result<Option<Plain>, Unplain> {
     let Some(body) = skip_title(bytes) else {
@@ -291,6 +296,9 @@ pub fn plain_form(alloc: Global, bytes: &[u8], forms: Forms) -> Result<Option<Pl
     let first = bytes.len().saturating_sub(body.text.len());
     let lexemes = lexemes(alloc, bytes, first)?;
     let sheet = sheet_of(alloc, bytes, &lexemes)?;
+    if !sheet.is_whole {
+        return Ok(None);
+    }
     if !is_wide(bytes, &lexemes, &sheet) {
         return Ok(unrolled(alloc, bytes, &lexemes, &sheet, forms)?);
     }

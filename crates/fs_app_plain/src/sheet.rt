@@ -41,6 +41,8 @@ pub(crate) struct Sheet {
     pub(crate) rows_end: usize,
     /// The first one behind the rows.
     pub(crate) tail: usize,
+    /// There aren't more instructions, labels or harts than are looked at.
+    pub(crate) is_whole: bool,
     /// So many instructions of each hart.
     counts: Vec<usize>,
 }
@@ -79,6 +81,7 @@ impl Sheet {
             labels: Vec::new(alloc),
             rows_end: 0,
             tail,
+            is_whole: true,
             counts: Vec::from_array(alloc, [0; MOST_HARTS])?,
         })
     }
@@ -137,11 +140,10 @@ impl Sheet {
                 }
             }
         }
-        Ok(
-            hart < MOST_HARTS
-                && self.labels.len() <= MOST_LABELS
-                && self.instructions.len() <= MOST_INSTRUCTIONS,
-        )
+        self.is_whole = hart < MOST_HARTS
+            && self.labels.len() <= MOST_LABELS
+            && self.instructions.len() <= MOST_INSTRUCTIONS;
+        Ok(self.is_whole)
     }
 
     /// Takes the lexeme of this number. False where nothing behind it counts.

@@ -1,10 +1,13 @@
 //! Accesses of 64 bits, as accesses of a word.
 
-use crate::lexemes::{Lexeme, lexemes, word_at};
+use crate::lexemes::{Lexeme, lexemes, part, word_at};
 use crate::sheet::{Sheet, sheet_of};
 use fs_litmus::skip_title;
 use fs_litmus_tokens::number_of;
 use std::alloc::{AllocError, Global};
+
+/// The greatest word without a sign.
+const GREATEST: u32 = 0x7fff_ffff;
 
 /// How many bits an access has.
 #[derive(Clone, Copy, PartialEq)]
@@ -89,7 +92,8 @@ pub(crate) fn narrowed(
     relettered(alloc, text, lexemes, sheet, Width::Double, b'w')
 }
 
-/// The text of a test file with accesses of 64 bits for those of a word. Linear in the text.
+/// The text of a test file with accesses of 64 bits for those of a word, and numbers with their signs. Linear in the
+/// text.
 pub fn widened(alloc: Global, text: &[u8]) -> Result<Vec<u8>, AllocError> {
     let first = match skip_title(text) {
         Some(body) => text.len().saturating_sub(body.text.len()),
@@ -97,17 +101,23 @@ pub fn widened(alloc: Global, text: &[u8]) -> Result<Vec<u8>, AllocError> {
     };
     let lexemes = lexemes(alloc, text, first)?;
     let sheet = sheet_of(alloc, text, &lexemes)?;
-    relettered(alloc, text, &lexemes, &sheet, Width::Word, b'd')
+    let wide = relettered(alloc, text, &lexemes, &sheet, Width::Word, b'd')?;
+    with_signs(alloc, &wide, &lexemes)
+}
+
+/// Is it a number, however great?
+fn is_number(word: &str) -> bool {
+    match word.strip_prefix("0x") {
+        Some(digits) => !digits.is_empty() && digits.bytes().all(|byte| byte.is_ascii_hexdigit()),
+        None => !word.is_empty() && word.bytes().all(|byte| byte.is_ascii_digit()),
+    }
 }
 
 /// Is the word a number that takes more than 31 bits?
 fn is_great(word: &str) -> bool {
-    if !word.starts_with("0x") && !word.bytes().all(|byte| byte.is_ascii_digit()) {
-        return false;
-    }
     match number_of(word) {
-        Some(number) => number > 0x7fff_ffff,
-        None => true,
+        Some(number) => number > GREATEST,
+        None => is_number(word),
     }
 }
 
@@ -119,4 +129,33 @@ pub(crate) fn has_great_number(text: &[u8], lexemes: &[Lexeme]) -> bool {
         }
     }
     false
+}
+
+/// Appends the lexeme; a word of 32 bits with its sign.
+fn push_signed(
+    alloc: Global,
+    made: &mut Vec<u8>,
+    text: &[u8],
+    lexeme: Lexeme,
+) -> Result<(), AllocError> {
+    match number_of(lexeme.word(text)) {
+        Some(number) if number > GREATEST => {
+            let number = format!(in alloc; "-{}", number.wrapping_neg())?;
+            made.extend_from_slice(number.as_bytes())
+        }
+        _ => made.extend_from_slice(part(text, lexeme.start, lexeme.end)),
+    }
+}
+
+/// The text with signs for the numbers that are words of 32 bits.
+fn with_signs(alloc: Global, text: &[u8], lexemes: &[Lexeme]) -> Result<Vec<u8>, AllocError> {
+    let mut made = Vec::new(alloc);
+    let mut done = 0;
+    for lexeme in lexemes {
+        made.extend_from_slice(part(text, done, lexeme.start))?;
+        push_signed(alloc, &mut made, text, *lexeme)?;
+        done = lexeme.end;
+    }
+    made.extend_from_slice(part(text, done, text.len()))?;
+    Ok(made)
 }
