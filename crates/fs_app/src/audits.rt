@@ -286,7 +286,7 @@ fn answer_files<'a, R: Files + Input + Eprint + AllocGlobal + Threads + Sync>(
 {
     papers.read_prices(rt, audit.prices)?;
     let _table = read_prices(rt.alloc(), &papers.prices.bytes)?;
-    let asked = asked_of(audit, voice, papers);
+    let asked = asked_of(audit, voice, papers.forms, &papers.prices.bytes);
     let batch = audit_all(rt, files, audit.jobs, asked)?;
     let Batch {
         files: found,
@@ -313,7 +313,7 @@ fn answer_objects<'a, R: Files + Input + Eprint + AllocGlobal + Threads + Sync>(
 {
     papers.read_prices(rt, audit.prices)?;
     let _table = read_prices(rt.alloc(), &papers.prices.bytes)?;
-    let asked = asked_of(audit, voice, papers);
+    let asked = asked_of(audit, voice, papers.forms, &papers.prices.bytes);
     let batch = audit_all(rt, files, audit.jobs, asked)?;
     let Batch {
         objects,
@@ -329,14 +329,14 @@ fn answer_objects<'a, R: Files + Input + Eprint + AllocGlobal + Threads + Sync>(
 }
 
 /// What is asked of each file, at these prices.
-fn asked_of<'p>(audit: &Audit<'_>, voice: Voice, papers: &'p Papers<'_>) -> Asked<'p> {
+fn asked_of<'p>(audit: &Audit<'_>, voice: Voice, forms: Forms, prices: &'p [u8]) -> Asked<'p> {
     Asked {
-        prices: &papers.prices.bytes,
+        prices,
         is_anew: audit.anew,
         is_json: audit.json,
         limit: limit_of(audit),
         explains: voice.explains,
-        forms: papers.forms,
+        forms,
     }
 }
 

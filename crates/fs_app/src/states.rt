@@ -13,6 +13,14 @@ use fs_kinds::Fault;
 use std::alloc::Global;
 use std::rt::Files;
 
+/// What is asked of each file.
+#[derive(Clone, Copy)]
+struct Asked {
+    shown: Shown,
+    voice: Voice,
+    forms: Forms,
+}
+
 /// The states of each file, in their order. The fault of one is said on standard error, as JSON also where the states
 /// are printed, and the others go on.
 pub(crate) fn answer_states<R: Files + Input + Eprint + AllocGlobal>(
@@ -22,9 +30,19 @@ pub(crate) fn answer_states<R: Files + Input + Eprint + AllocGlobal>(
     forms: Forms,
 ) -> Result<Output, Fault> {
     let mut output = nothing(rt);
+    let asked = Asked {
+        shown: Shown {
+            all: states.all,
+            witnesses: states.witnesses,
+            json: states.json,
+            guarded: false,
+        },
+        voice,
+        forms,
+    };
     let files = sources(rt, &states.files)?;
     for source in &files {
-        add_states(rt, source, states, voice, forms, &mut output)?;
+        add_states(rt, source, &states.fences, asked, &mut output)?;
     }
     Ok(output)
 }
@@ -41,18 +59,17 @@ fn nothing<R: AllocGlobal>(rt: &R) -> Output {
 fn add_states<'a, R: Files + Input + Eprint + AllocGlobal>(
     rt: &R,
     source: &'a Source,
-    states: &'a States<'a>,
-    voice: Voice,
-    forms: Forms,
+    fences: &'a [String],
+    asked: Asked,
     output: &mut Output,
 ) -> Result<(), Fault> {
-    let mut papers = Papers::new(rt.alloc(), forms);
-    papers.fences = &states.fences;
-    match read_states(rt, source, states, &mut papers) {
+    let mut papers = Papers::new(rt.alloc(), asked.forms);
+    papers.fences = fences;
+    match read_states(rt, source, asked.shown, &mut papers) {
         Ok(block) => output.text.push_str(block.as_str())?,
         Err(fault) => {
-            say_fault(rt, fault, voice, &papers)?;
-            add_fault(rt.alloc(), fault, states.json, &papers, output)?;
+            say_fault(rt, fault, asked.voice, &papers)?;
+            add_fault(rt.alloc(), fault, asked.shown.json, &papers, output)?;
         }
     }
     Ok(())
@@ -78,17 +95,13 @@ fn add_fault(
 fn read_states<'a, R: Files + Input + AllocGlobal>(
     rt: &R,
     source: &'a Source,
-    states: &States<'_>,
+    shown: Shown,
     papers: &mut Papers<'a>,
 ) -> Result<String, Fault> {
     papers.read_source(rt, source)?;
-    let asked = Shown {
-        all: states.all,
-        witnesses: states.witnesses,
-        json: states.json,
-        guarded: papers.is_guarded,
-    };
-    run_states(rt.alloc(), &papers.test.bytes, papers.fences, asked)
+    let mut shown = shown;
+    shown.guarded = papers.is_guarded;
+    run_states(rt.alloc(), &papers.test.bytes, papers.fences, shown)
 }
 
 /// Says the fault of a file on standard error, unless it ends the run.
