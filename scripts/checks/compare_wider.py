@@ -89,7 +89,8 @@ def turns_of(body, turns):
     code = []
     for turn in range(turns):
         first, goes_on = len(code), turn + 1 < turns
-        code += [f"{it},T{turn + goes_on}" if it[0] == "b" else it for it in body] + ["j OUT"] * goes_on
+        code += [f"{it},T{turn + goes_on}" if it[0] == "b" and "OUT" not in it else it for it in body]
+        code += ["j OUT"] * goes_on
         code[first] = f"T{turn}: {code[first]}"
     return code
 
@@ -106,6 +107,30 @@ def check_turns(run, chance, number):
         found.append(lines_of(said) if said.status == 0 else said)
     run.check(f"the states of {text} in fewer turns", found[0] == found[1] == found[2], found)
     run.kinds["states of loops that wait"] += len(found[0])
+
+
+# what loops are made of, of which one turn may be as good as several or not
+MADE = ["lw x11,0(x6)", "lw x12,0(x10)", "amoswap.w x11,x5,(x6)", "amoor.w x13,x0,(x10)", "addi x12,x12,1", "li x12,1",
+        "xor x14,x11,x12", "sw x5,0(x10)", "lr.w x11,(x6)", "sc.w x13,x5,(x6)", "fence r,rw", "beqz x11,OUT"]
+BACK = ["bnez x11", "beqz x11", "bnez x13", "beqz x12", "bne x11,x12"]
+
+
+def check_notes(run, chance, number):
+    """A loop of which no note is said has the same states, of what the condition names, in one, two and three turns."""
+    body = [*chance.sample(MADE, chance.choice([1, 2, 3])), chance.choice(BACK)]
+    beside = [chance.choice(BESIDE) for _ in range(chance.choice([1, 2]))]
+    shown = " \\/ ".join(f"{it}=1" for it in ["x", "z", *(f"0:x{it}" for it in chance.sample(range(11, 15), 2))])
+    found, notes = [], []
+    for turns in (1, 2, 3):
+        text = text_of(f"notes{number}", [[*turns_of(body, turns), "OUT: lw x16,0(x10)"], beside], f"exists ({shown})")
+        said = rvfence("states", "--unroll", "1", run.file("notes", text))
+        found.append(lines_of(said) if said.status == 0 else said)
+        notes.append("in one turn of the loop" in said.err)
+    if notes[0]:
+        run.kinds["loops with a note"] += 1
+    else:
+        run.kinds["loops without one"] += 1
+        run.check(f"the states of {text} in fewer turns", found[0] == found[1] == found[2], found)
 
 
 def check_filter(run, chance, number):
@@ -164,7 +189,7 @@ def check_wide(run, chance, number):
     run.check(f"where 32 bits aren't enough, {text}", fits or said.err.startswith("fault F20"), said)
 
 
-CHECKS = [check_loops, check_turns, check_filter, check_wide]
+CHECKS = [check_loops, check_turns, check_notes, check_filter, check_wide]
 
 
 def check(run):

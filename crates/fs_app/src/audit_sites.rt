@@ -5,7 +5,7 @@ ghost use Rattle.fs_app_sites.specs.declared.content.File.{File as SitesFile};
 ghost use Rattle.fs_app_sites_audit.specs.Audited.{IsAudited};
 ghost use Rattle.fs_app.specs.Answers.{AnswersAuditSites};
 
-use crate::program::Voice;
+use crate::program::{Voice, say_notes};
 use crate::sites::{MOST_ROUNDS, blame, failed, read_tests};
 use fs_app_command_line::{AuditSites, MOST_NODES};
 use fs_app_files::Papers;
@@ -29,7 +29,10 @@ pub(crate) fn answer_audit_sites<'a, R: Files + Input + Eprint + AllocGlobal>(
     let sources = sources(rt, &audit.files)?;
     let mut blamed = Papers::new(rt.alloc(), papers.forms);
     match audited(rt, audit, &sources, &papers.prices.bytes, &mut blamed) {
-        Ok(output) => Ok(output),
+        Ok(output) => {
+            say_notes(rt, voice, blamed.notes.as_str());
+            Ok(output)
+        }
         Err(fault) => failed(rt, audit.json, fault, voice, &blamed),
     }
 }

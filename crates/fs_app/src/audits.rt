@@ -7,7 +7,7 @@ ghost use Rattle.fs_app.specs.Telling.{IsToldBy};
 ghost use Rattle.fs_app_audit_why.specs.Why.{IsAuditWhy};
 
 use crate::failure::Failure;
-use crate::program::{Voice, refused, report};
+use crate::program::{Voice, mended, refused, report};
 use crate::telling::{telling_of, with_below};
 use fs_app_audit::{Found, audit_file, blocks_of, blocks_output, run_anew, run_audit, run_written};
 use fs_app_audit_json::{FoundObject, object_of_file, objects_of, objects_output};
@@ -16,7 +16,7 @@ use fs_app_command_line::{Audit, MOST_NODES};
 use fs_app_file_text::keeps;
 use fs_app_files::{Papers, Unusable, message_of_file, plain_text};
 use fs_app_io::{Output, Source, Status, sources, tell, write_whole};
-use fs_app_plain::{Forms, widened};
+use fs_app_plain::{Forms, Plain};
 use fs_app_why_kinds::Telling;
 use fs_kinds::{Fault, read_prices};
 use std::alloc::{AllocError, Global};
@@ -27,11 +27,11 @@ use std::thread::Threads;
 /// So many files each thread judges before all go on to the next ones.
 const AT_ONCE: usize = 4;
 
-/// A file that was read: its name, and its bytes or why it has none.
+/// A file that was read: its name, and its test or why it has none.
 #[derive(Drop)]
 struct Taken<'a> {
     name: &'a str,
-    file: Result<Vec<u8>, Unusable>,
+    file: Result<Plain, Unusable>,
 }
 
 /// What is asked of each file.
@@ -205,27 +205,26 @@ fn mend_in_place<'a, R: Files + Input + Eprint + AllocGlobal>(
     let (test, prices) = (&papers.test.bytes, &papers.prices.bytes);
     let written = run_written(rt.alloc(), test, prices, limit_of(audit))?;
     if !keeps(test, written.text.as_bytes()) {
-        report(rt, &Failure::NotMended);
-        return Ok(silent(rt.alloc(), kept_status(written.status)));
+        return Ok(not_mended(rt, written.status));
     }
-    if written.status == Status::Denied {
-        write_mended(rt, word, written.text.as_bytes(), papers.is_wide)?;
+    if written.status != Status::Denied {
+        return Ok(silent(rt.alloc(), Status::Success));
     }
-    Ok(silent(rt.alloc(), Status::Success))
+    match mended(rt.alloc(), written.text.as_str(), papers)? {
+        Some(text) => {
+            write_whole(rt, word, &text)?;
+            Ok(silent(rt.alloc(), Status::Success))
+        }
+        None => Ok(not_mended(rt, written.status)),
+    }
 }
 
-/// Writes the text, with accesses of 64 bits where those of a word stand for them.
-fn write_mended<R: Files + AllocGlobal>(
-    rt: &R,
-    word: &str,
-    text: &[u8],
-    is_wide: bool,
-) -> Result<(), Fault> {
-    if is_wide {
-        write_whole(rt, word, &widened(rt.alloc(), text)?)
-    } else {
-        write_whole(rt, word, text)
-    }
+/// No output, where the file stays as it is.
+fn not_mended<R: Files + Eprint + AllocGlobal>(rt: &R, status: Status) -> Output
+    ensures { string_bytes result.text ≡ [] }
+{
+    report(rt, &Failure::NotMended);
+    silent(rt.alloc(), kept_status(status))
 }
 
 /// The status where a file stays as it is, of which `--write` would end with this one.
@@ -384,7 +383,7 @@ fn audit_in_turn<'a, R: Files + Input + AllocGlobal>(
 fn take<'a, R: Files + Input + AllocGlobal>(rt: &R, source: &'a Source, forms: Forms) -> Taken<'a> {
     Taken {
         name: source.name.as_str(),
-        file: plain_text(rt.alloc(), source.read(rt), forms).map(|plain| plain.text),
+        file: plain_text(rt.alloc(), source.read(rt), forms),
     }
 }
 
@@ -434,6 +433,7 @@ impl<'a> Batch<'a> {
         if asked.explains {
             self.add_message(message_of_file(alloc, name, &file));
         }
+        let file = file.map(|plain| plain.text);
         let limit = asked.limit.clamp(1, MOST_NODES as usize);
         if asked.is_json {
             let found = object_of_file(alloc, name, file, asked.prices, asked.is_anew, limit)?;

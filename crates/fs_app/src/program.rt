@@ -32,13 +32,13 @@ use fs_app_command_line::{
 };
 use fs_app_error_messages::shown_name;
 use fs_app_files::{
-    Expecting, Judged, ListError, Papers, Wants, fault_object, judge_files, read_rows,
+    Expecting, Judged, ListError, Papers, Wants, fault_object, in_width, judge_files, read_rows,
 };
 use fs_app_io::{
     INPUT_LIMIT, Output, Status, has_stack, room_of, sources, tell, write_whole, write_within,
 };
 use fs_app_place_order::{run_order, run_place};
-use fs_app_plain::{Forms, widened};
+use fs_app_plain::{Forms, in_file, widened};
 use fs_app_sites::{run_order_sites, run_place_sites};
 use fs_app_solve::{Found, run_solve, run_solve_alone};
 use fs_app_test::{Line, test_objects, test_report, vacuous_note};
@@ -133,7 +133,11 @@ fn status_of_run<
     let voice = Voice::of(&request, is_terminal);
     let mut papers = Papers::new(rt.alloc(), forms_of(&request));
     match answer(rt, &request.task, voice, &mut papers) {
-        Ok(output) => print(rt, &in_width(rt.alloc(), &request.task, output, &papers)?),
+        Ok(output) => {
+            let output = as_in_file(rt.alloc(), &request.task, output, &papers)?;
+            say_notes(rt, voice, papers.notes.as_str());
+            print(rt, &output)
+        }
         Err(fault) => {
             if request.task.is_json() {
                 print_fault(rt, fault, &papers)?;
@@ -143,43 +147,78 @@ fn status_of_run<
     }
 }
 
-/// Which forms of tests are read. A text that keeps to the file's own has no other condition; nor has one that is held
-/// against a log.
+/// Says notes on tests that were read, where there are some.
+pub(crate) fn say_notes<R: Files + Eprint + AllocGlobal>(rt: &R, voice: Voice, notes: &str) {
+    if voice.notes && !notes.is_empty() {
+        tell(rt, &notes);
+    }
+}
+
+/// Which forms of tests are read. One that is held against a log has no other condition than the log's.
 fn forms_of(request: &Request<'_>) -> Forms {
-    let keeps = match &request.task {
-        Task::Solve(solve) => solve.write,
-        Task::Audit(audit) => audit.write || audit.in_place,
+    let has_log = match &request.task {
         Task::States(states) => states.log.is_some(),
         _ => false,
     };
     Forms {
         unroll: request.unroll,
-        filter: !keeps,
+        filter: !has_log,
     }
 }
 
-/// The output, where it is a test with accesses of 64 bits where those of a word stand for them.
-fn in_width(
+/// The output in the form of the file that was read, of whose plain form it speaks: a test, or what is told of one.
+fn as_in_file(
     alloc: Global,
     task: &Task<'_>,
     output: Output,
     papers: &Papers<'_>,
 ) -> Result<Output, Fault> {
-    let is_test = match task {
-        Task::Place(_) => true,
-        Task::Solve(solve) => solve.write,
-        Task::Audit(audit) => audit.write,
-        _ => false,
-    };
-    if !is_test || !papers.is_wide {
-        return Ok(output);
-    }
     let Output { text, status } = output;
+    let text = match task {
+        Task::Place(_) => wide_test(alloc, text, papers.is_wide)?,
+        Task::Solve(solve) if solve.write => written(alloc, text, papers)?,
+        Task::Audit(audit) if audit.write => written(alloc, text, papers)?,
+        Task::Solve(solve) if !solve.json => in_width(alloc, text, papers.is_wide)?,
+        Task::Check(check) if !check.json => in_width(alloc, text, papers.is_wide)?,
+        Task::Audit(_) | Task::Order(_) => in_width(alloc, text, papers.is_wide)?,
+        _ => text,
+    };
+    Ok(Output { text, status })
+}
+
+/// The test, with accesses of 64 bits where those of a word stand for them.
+fn wide_test(alloc: Global, text: String, is_wide: bool) -> Result<String, Fault> {
+    if !is_wide {
+        return Ok(text);
+    }
     let wide = widened(alloc, text.as_bytes())?;
-    Ok(Output {
-        text: String::from_utf8(wide).unwrap_or(text),
-        status,
-    })
+    Ok(String::from_utf8(wide).unwrap_or(text))
+}
+
+/// The file with what was changed in its plain form; or that form, changed, where the file can't be.
+fn written(alloc: Global, text: String, papers: &Papers<'_>) -> Result<String, Fault> {
+    match mended(alloc, text.as_str(), papers)? {
+        Some(bytes) => Ok(String::from_utf8(bytes).unwrap_or(text)),
+        None => wide_test(alloc, text, papers.is_wide),
+    }
+}
+
+/// The file that was read with what was changed in its plain form, as `in_file` of fs_app_plain has it.
+pub(crate) fn mended(
+    alloc: Global,
+    text: &str,
+    papers: &Papers<'_>,
+) -> Result<Option<Vec<u8>>, Fault> {
+    match &papers.file {
+        Some(file) => {
+            let plain = &papers.test.bytes;
+            match in_file(alloc, file, plain, text.as_bytes(), papers.forms) {
+                Ok(made) => Ok(made),
+                Err(why) => Err(why.fault()),
+            }
+        }
+        None => Ok(Some(Vec::from_slice(alloc, text.as_bytes())?)),
+    }
 }
 
 /// The failure of a run that a fault ended. Of words of sites messages know nothing but which sites there are.

@@ -8,7 +8,7 @@ ghost use Rattle.fs_app_sites_check.specs.Checked.{IsSitesChecked};
 ghost use Rattle.fs_app.specs.Answers.{AnswersSites, AnswersCheckSites};
 
 use crate::failure::Failure;
-use crate::program::{CERTIFICATE_LIMIT, Voice, failure_of, in_form, refused, report};
+use crate::program::{CERTIFICATE_LIMIT, Voice, failure_of, in_form, refused, report, say_notes};
 use fs_app_check::Checked;
 use fs_app_command_line::{CheckSites, MOST_NODES, MOST_WORKERS, Sites};
 use fs_app_error_messages::{explain_test, shown_name};
@@ -61,7 +61,10 @@ pub(crate) fn answer_sites<'a, R: Files + Input + Eprint + AllocGlobal + Threads
         voice,
         &mut blamed,
     ) {
-        Ok(solved) => Ok(noted(rt, sites.free, voice, solved)),
+        Ok(solved) => {
+            say_notes(rt, voice, blamed.notes.as_str());
+            Ok(noted(rt, sites.free, voice, solved))
+        }
         Err(fault) => failed(rt, sites.json, fault, voice, &blamed),
     }
 }
@@ -239,7 +242,10 @@ pub(crate) fn answer_check_sites<'a, R: Files + Input + Eprint + AllocGlobal>(
     let sources = sources(rt, &check.files)?;
     let mut blamed = Papers::new(rt.alloc(), papers.forms);
     match checked(rt, &sources, check.free, papers, &mut blamed) {
-        Ok(checked) => Ok(in_form(checked.output, checked.object, check.json)),
+        Ok(checked) => {
+            say_notes(rt, voice, blamed.notes.as_str());
+            Ok(in_form(checked.output, checked.object, check.json))
+        }
         Err(fault) => failed(rt, check.json, fault, voice, &blamed),
     }
 }

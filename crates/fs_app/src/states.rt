@@ -1,6 +1,6 @@
 //! What `states` answers: the states of each file, or what a log has of them.
 use crate::failure::Failure;
-use crate::program::{Voice, failure_of, report};
+use crate::program::{Voice, failure_of, report, say_notes};
 use fs_app_command_line::States;
 use fs_app_error_messages::explain_all_of_test;
 use fs_app_files::{Papers, fault_object};
@@ -66,7 +66,10 @@ fn add_states<'a, R: Files + Input + Eprint + AllocGlobal>(
     let mut papers = Papers::new(rt.alloc(), asked.forms);
     papers.fences = fences;
     match read_states(rt, source, asked.shown, &mut papers) {
-        Ok(block) => output.text.push_str(block.as_str())?,
+        Ok(block) => {
+            say_notes(rt, asked.voice, papers.notes.as_str());
+            output.text.push_str(block.as_str())?;
+        }
         Err(fault) => {
             say_fault(rt, fault, asked.voice, &papers)?;
             add_fault(rt.alloc(), fault, asked.shown.json, &papers, output)?;

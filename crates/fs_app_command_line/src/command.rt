@@ -1540,21 +1540,6 @@ struct Conflict {
 
 const CONFLICTS: &[Conflict] = &[
     Conflict {
-        command: "solve",
-        name: "unroll",
-        other: "write",
-    },
-    Conflict {
-        command: "audit",
-        name: "unroll",
-        other: "write",
-    },
-    Conflict {
-        command: "audit",
-        name: "unroll",
-        other: "in-place",
-    },
-    Conflict {
         command: "states",
         name: "unroll",
         other: "log",

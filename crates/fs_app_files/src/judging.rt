@@ -7,7 +7,7 @@ use crate::expecting::Expecting;
 use crate::papers::{message_of_file, note_of_file, note_or};
 use crate::unusable::{Unusable, plain_text};
 use fs_app_io::Source;
-use fs_app_plain::Forms;
+use fs_app_plain::{Forms, Plain};
 use fs_app_test::{Expected, Kind, Line, Note, test_file};
 use fs_kinds::Fault;
 use std::alloc::{AllocError, Global};
@@ -19,11 +19,11 @@ use std::thread::Threads;
 /// So many files each thread judges before all go on to the next ones.
 const AT_ONCE: usize = 8;
 
-/// A file that was read: its name, its bytes or why it has none, and what its test is expected to be.
+/// A file that was read: its name, its test or why it has none, and what that is expected to be.
 #[derive(Drop)]
 struct Taken<'a> {
     name: &'a str,
-    file: Result<Vec<u8>, Unusable>,
+    file: Result<Plain, Unusable>,
     expected: Option<Expected>,
 }
 
@@ -158,6 +158,7 @@ impl Batch {
         if wants.messages {
             self.add_message(message_of_file(alloc, name, &file));
         }
+        let file = file.map(|plain| plain.text);
         let note = if wants.notes {
             note_of_file(alloc, &file)?
         } else {
@@ -272,9 +273,9 @@ fn take<'a, R: Files + Input + AllocGlobal>(
     forms: Forms,
     expecting: &mut Expecting<'_>,
 ) -> Result<Taken<'a>, AllocError> {
-    let file = plain_text(rt.alloc(), source.read(rt), forms).map(|plain| plain.text);
+    let file = plain_text(rt.alloc(), source.read(rt), forms);
     let expected = match &file {
-        Ok(bytes) => expecting.expected(rt.alloc(), bytes)?,
+        Ok(plain) => expecting.expected(rt.alloc(), &plain.text)?,
         Err(_) => None,
     };
     Ok(Taken {

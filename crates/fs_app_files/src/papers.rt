@@ -2,6 +2,7 @@
 
 ghost use Rattle.std.specs.Prelude.{◌≡◌, IfOk, OnOk};
 
+use crate::notes::{in_width, turn_notes};
 use crate::unusable::{Unusable, plain_text};
 use fs_app_error_messages::{
     Located, explain_all, explain_all_of_test, explain_fences, explain_json, explain_unread,
@@ -36,6 +37,10 @@ pub struct Papers<'a> {
     pub is_wide: bool,
     /// Whether the test's condition has what its executions must meet, as `Plain` says.
     pub is_guarded: bool,
+    /// The file of which the test is made, where that isn't in the reader's form.
+    pub file: Option<Vec<u8>>,
+    /// Lines on loops of the tests that were read, of which one turn may not be as good as several.
+    pub notes: String,
     /// The name of the file that wasn't read, and why.
     unread: Option<(&'a str, Unusable)>,
 }
@@ -51,6 +56,8 @@ impl<'a> Papers<'a> {
             forms,
             is_wide: false,
             is_guarded: false,
+            file: None,
+            notes: String::new(alloc),
             unread: None,
         }
     }
@@ -66,7 +73,7 @@ impl<'a> Papers<'a> {
             × (self.new.fences ≡ self.old.fences) }
     {
         let text = plain_text(rt.alloc(), read_input(rt, name), self.forms);
-        self.test = self.plain_paper(name, text)?;
+        self.test = self.plain_paper(rt.alloc(), name, text)?;
         Ok(())
     }
 
@@ -77,7 +84,7 @@ impl<'a> Papers<'a> {
         source: &'a Source,
     ) -> Result<(), Fault> {
         let text = plain_text(rt.alloc(), source.read(rt), self.forms);
-        self.test = self.plain_paper(source.name.as_str(), text)?;
+        self.test = self.plain_paper(rt.alloc(), source.name.as_str(), text)?;
         Ok(())
     }
 
@@ -113,6 +120,7 @@ impl<'a> Papers<'a> {
     /// The paper of this test; or the fault that there is none, and why is kept.
     fn plain_paper(
         &mut self,
+        alloc: Global,
         name: &'a str,
         file: Result<Plain, Unusable>,
     ) -> Result<Paper<'a>, Fault>
@@ -122,8 +130,11 @@ impl<'a> Papers<'a> {
     {
         match file {
             Ok(plain) => {
+                let notes = turn_notes(alloc, name, &plain.turns)?;
+                self.notes.push_str(notes.as_str())?;
                 self.is_wide = plain.is_wide;
                 self.is_guarded = plain.is_guarded;
+                self.file = plain.file;
                 Ok(Paper {
                     name,
                     bytes: plain.text,
@@ -163,7 +174,8 @@ impl<'a> Papers<'a> {
     /// The message of the fault that ended the run, and those of further faults of the test. None where there is no
     /// more to say than its line, or no memory for it.
     pub fn message(&self, alloc: Global, fault: Fault) -> Option<String> {
-        self.explained(alloc, fault).unwrap_or(None)
+        let message = self.explained(alloc, fault).unwrap_or(None)?;
+        in_width(alloc, message, self.is_wide).ok()
     }
 
     fn explained(&self, alloc: Global, fault: Fault) -> Result<Option<String>, AllocError> {
@@ -297,18 +309,26 @@ fn unread_line(alloc: Global, name: &str, why: Unusable) -> Result<String, Alloc
     explain_unread(alloc, name, why.as_str())
 }
 
-/// The messages of a file beside others that isn't a test, or wasn't read. None where it is one, or there is no memory
-/// for them. A file that is one is read once more where it is judged.
+/// The messages of a file beside others that isn't a test, or wasn't read; or the lines on its loops. None where there
+/// is nothing to say, or no memory for it. A file that is a test is read once more where it is judged.
 pub fn message_of_file(
     alloc: Global,
     name: &str,
-    file: &Result<Vec<u8>, Unusable>,
+    file: &Result<Plain, Unusable>,
 ) -> Option<String> {
     match file {
-        Ok(bytes) => explain_all_of_test(alloc, name, bytes).unwrap_or(None),
+        Ok(plain) => message_of_plain(alloc, name, plain),
         Err(why) if why.fault() == Fault::Memory => None,
         Err(why) => unread_line(alloc, name, *why).ok(),
     }
+}
+
+fn message_of_plain(alloc: Global, name: &str, plain: &Plain) -> Option<String> {
+    if !plain.turns.is_empty() {
+        return turn_notes(alloc, name, &plain.turns).ok();
+    }
+    let message = explain_all_of_test(alloc, name, &plain.text).unwrap_or(None)?;
+    in_width(alloc, message, plain.is_wide).ok()
 }
 
 /// What that message says, for those who read JSON. The error is want of memory. The cost is that of `locate_test` of

@@ -33,9 +33,11 @@ pub fn plain_text(
 ) -> Result<Plain, Unusable> {
     match file {
         Ok(bytes) => match plain_form(alloc, &bytes, forms) {
-            Ok(Some(plain)) => Ok(plain),
+            Ok(Some(plain)) => Ok(plain.of_file(bytes)),
             Ok(None) => Ok(Plain {
                 text: bytes,
+                file: None,
+                turns: Vec::new(alloc),
                 is_guarded: false,
                 is_wide: false,
             }),

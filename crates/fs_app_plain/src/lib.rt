@@ -6,9 +6,12 @@ mod guard;
 mod lexemes;
 mod loops;
 mod plain;
+mod restore;
 mod sheet;
+mod turns;
 mod width;
 mod words;
 
-pub use plain::{Forms, Plain, Unplain, plain_form};
-pub use width::widened;
+pub use plain::{Forms, Plain, Unplain, in_file, plain_form};
+pub use turns::{Doubt, OneTurn};
+pub use width::{widened, widened_words};

@@ -1,6 +1,6 @@
 //! The branches of a test file that go back.
 
-use crate::lexemes::{Lexeme, word_at};
+use crate::lexemes::{Lexeme, part, word_at};
 use crate::sheet::{Instruction, Label, MOST_HARTS, Sheet};
 use fs_instr::Reg;
 use std::alloc::{AllocError, Global};
@@ -11,9 +11,21 @@ const REGISTERS: usize = 32;
 /// A label to which branches go that have no other turn to make.
 const NEXT_TURN: &str = "NextTurn";
 
+/// A branch that goes back, by positions in its hart's code.
+#[derive(Clone, Copy)]
+pub(crate) struct Turn {
+    pub(crate) hart: usize,
+    pub(crate) at: usize,
+    /// Where it goes.
+    pub(crate) to: usize,
+    /// Its line in the file, from 1 on.
+    pub(crate) line: usize,
+}
+
 /// The branches of a test that go back, and what stands for them.
 #[derive(Drop)]
 pub(crate) struct Loops {
+    pub(crate) turns: Vec<Turn>,
     /// The lexemes of the labels in these branches.
     pub(crate) branches: Vec<usize>,
     /// The lexemes of labels to which no other branch goes.
@@ -174,6 +186,52 @@ fn unders(text: &[u8], lexemes: &[Lexeme]) -> usize {
     most
 }
 
+/// A place in a text: its byte, and its line, from 1 on.
+#[derive(Clone, Copy)]
+struct Place {
+    byte: usize,
+    line: usize,
+}
+
+impl Place {
+    /// The place of a byte that isn't before this one. Linear in the bytes between them.
+    fn later(self, text: &[u8], byte: usize) -> Place {
+        let mut line = self.line;
+        for passed in part(text, self.byte, byte) {
+            if *passed == b'\n' {
+                line = line.saturating_add(1);
+            }
+        }
+        Place { byte, line }
+    }
+}
+
+/// The branches that go back, each to this label of its instruction's. Linear in the text.
+fn turns_of(
+    alloc: Global,
+    text: &[u8],
+    lexemes: &[Lexeme],
+    sheet: &Sheet,
+    behind: &[Option<Label>],
+) -> Result<Vec<Turn>, AllocError> {
+    let mut turns = Vec::new(alloc);
+    let mut place = Place { byte: 0, line: 1 };
+    for (number, instruction) in sheet.instructions.iter().enumerate() {
+        if let Some(lexeme) = lexemes.get(instruction.mnemonic) {
+            place = place.later(text, lexeme.start);
+        }
+        if let Some(Some(label)) = behind.get(number) {
+            turns.push(Turn {
+                hart: instruction.hart,
+                at: instruction.at,
+                to: label.at,
+                line: place.line,
+            })?;
+        }
+    }
+    Ok(turns)
+}
+
 /// The branches that go back. Nothing where there are none, or no register is free.
 pub(crate) fn loops_of(
     alloc: Global,
@@ -185,6 +243,7 @@ pub(crate) fn loops_of(
     let mut labels = Vec::new(alloc);
     let mut harts = Vec::from_array(alloc, [false; MOST_HARTS])?;
     let behind = labels_behind(alloc, text, lexemes, sheet)?;
+    let turns = turns_of(alloc, text, lexemes, sheet, &behind)?;
     for (number, instruction) in sheet.instructions.iter().enumerate() {
         if let Some(Some(label)) = behind.get(number) {
             branches.push(instruction.last)?;
@@ -201,6 +260,7 @@ pub(crate) fn loops_of(
         return Ok(None);
     }
     Ok(Some(Loops {
+        turns,
         branches,
         labels,
         harts,

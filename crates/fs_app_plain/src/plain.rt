@@ -1,13 +1,19 @@
 //! The text of a test file in the reader's form.
 
+ghost use Rattle.std.specs.Prelude.{All};
+ghost use Rattle.fs_model.specs.Test.{IsBounded, IsStart};
+
 use crate::guard::{Asked, asked_of, is_balanced, push_line};
-use crate::lexemes::{Lexeme, lexemes, part};
-use crate::loops::{Loops, loops_of, push_next_turn};
+use crate::lexemes::{Lexeme, lexemes, part, word_at};
+use crate::loops::{Loops, Turn, loops_of, push_next_turn};
+use crate::restore::restored;
 use crate::sheet::{Sheet, sheet_of};
+use crate::turns::{OneTurn, doubtful};
 use crate::width::{has_great_number, is_wide, narrowed};
 use crate::words::inexact;
 use fs_kinds::Fault;
 use fs_litmus::{read_test, skip_title};
+use fs_model::Test;
 use std::alloc::{AllocError, AllocFailed, Global};
 use thiserror::Error;
 
@@ -24,10 +30,23 @@ pub struct Forms {
 #[derive(Drop)]
 pub struct Plain {
     pub text: Vec<u8>,
+    /// The file of which it is made, where that isn't in this form.
+    pub file: Option<Vec<u8>>,
+    /// The loops of which one turn may not be as good as several.
+    pub turns: Vec<OneTurn>,
     /// Its condition is `(G) /\ (C)`, behind `forall` `(G) => (C)`: the states that count are those with G.
     pub is_guarded: bool,
     /// Accesses of a word stand in it for those of 64 bits.
     pub is_wide: bool,
+}
+
+impl Plain {
+    /// The same, made of this file.
+    pub fn of_file(self, file: Vec<u8>) -> Plain {
+        let mut plain = self;
+        plain.file = Some(file);
+        plain
+    }
 }
 
 /// Why there is no such text.
@@ -243,6 +262,14 @@ impl<'a> Making<'a> {
     }
 }
 
+/// A text in the reader's form, and the branches of the file that go back.
+#[derive(Drop)]
+struct Made {
+    text: Vec<u8>,
+    turns: Vec<Turn>,
+    is_guarded: bool,
+}
+
 /// The text with loops and `filter` in the reader's form, where it has some.
 fn unrolled(
     alloc: Global,
@@ -250,25 +277,52 @@ fn unrolled(
     lexemes: &[Lexeme],
     sheet: &Sheet,
     forms: Forms,
-) -> Result<Option<Plain>, AllocError> {
-    match Making::new(alloc, bytes, lexemes, sheet, forms)? {
-        Some(making) => Ok(Some(Plain {
-            text: making.made(alloc)?,
-            is_guarded: true,
-            is_wide: false,
-        })),
-        None => Ok(None),
-    }
+) -> Result<Option<Made>, AllocError> {
+    let Some(making) = Making::new(alloc, bytes, lexemes, sheet, forms)? else {
+        return Ok(None);
+    };
+    let text = making.made(alloc)?;
+    let Making { loops, .. } = making;
+    let turns = match loops {
+        Some(Loops { turns, .. }) => turns,
+        None => Vec::new(alloc),
+    };
+    Ok(Some(Made {
+        text,
+        turns,
+        is_guarded: true,
+    }))
 }
 
-/// Is the text, in which accesses of a word stand for those of 64 bits, one of a test that they make no other?
-fn check_words(alloc: Global, text: &[u8]) -> Result<(), Unplain> {
-    let test = match read_test(alloc, text) {
-        Ok(test) => test,
-        Err(Fault::Memory) => return Err(Unplain::NoMemory),
-        Err(_) => return Ok(()),
-    };
-    match inexact(alloc, &test) {
+/// The text in the reader's form; nothing where the file is in that, or in no form that is known.
+fn made_of(
+    alloc: Global,
+    bytes: &[u8],
+    lexemes: &[Lexeme],
+    sheet: &Sheet,
+    forms: Forms,
+    is_wide: bool,
+) -> Result<Option<Made>, AllocError> {
+    if !is_wide {
+        return unrolled(alloc, bytes, lexemes, sheet, forms);
+    }
+    let text = narrowed(alloc, bytes, lexemes, sheet)?;
+    if let Some(made) = unrolled(alloc, &text, lexemes, sheet, forms)? {
+        return Ok(Some(made));
+    }
+    Ok(Some(Made {
+        text,
+        turns: Vec::new(alloc),
+        is_guarded: false,
+    }))
+}
+
+/// Is it a test that is the same with accesses of 64 bits?
+fn check_words(alloc: Global, test: &Test) -> Result<(), Unplain>
+    requires test { IsBounded test.now }
+    requires starts { All IsStart test.now.starts }
+{
+    match inexact(alloc, test) {
         Ok(Some(place)) => Err(Unplain::Word {
             hart: place.hart,
             at: place.at,
@@ -279,6 +333,46 @@ fn check_words(alloc: Global, text: &[u8]) -> Result<(), Unplain> {
     }
 }
 
+/// What is looked at in the file of a text that was made.
+#[derive(Clone, Copy)]
+struct Source<'a> {
+    bytes: &'a [u8],
+    lexemes: &'a [Lexeme],
+    tail: usize,
+}
+
+/// The loops of the text of which one turn may not be as good as several, once it is known to be a test that is the
+/// same with the accesses that the file has. Nothing where it is no test.
+fn checked(
+    alloc: Global,
+    source: Source<'_>,
+    made: &Made,
+    is_wide: bool,
+) -> Result<Vec<OneTurn>, Unplain> {
+    if !is_wide && made.turns.is_empty() {
+        return Ok(Vec::new(alloc));
+    }
+    let test = match read_test(alloc, &made.text) {
+        Ok(test) => test,
+        Err(Fault::Memory) => return Err(Unplain::NoMemory),
+        Err(_) => return Ok(Vec::new(alloc)),
+    };
+    if is_wide {
+        check_words(alloc, &test)?;
+    }
+    if made.turns.is_empty() {
+        return Ok(Vec::new(alloc));
+    }
+    Ok(doubtful(
+        alloc,
+        &test,
+        &made.turns,
+        source.bytes,
+        source.lexemes,
+        source.tail,
+    )?)
+}
+
 /// The text of a test file in the reader's form; nothing where it is in that, or in no form that is known.
 ///
 /// - Where all accesses have 64 bits, accesses of a word stand in their place. It is refused where a run of the test
@@ -287,8 +381,8 @@ fn check_words(alloc: Global, text: &[u8]) -> Result<(), Unplain> {
 /// - Where it is asked for, each branch that goes back ends its hart's attempt: it goes to the end of the code, past an
 ///   instruction that writes 1 to a register which the file doesn't name, and the condition asks that this is 1.
 ///
-/// Positions of instructions stay, and lines but for those of a `filter`. Linear in the bytes, and of accesses of 64 bits the cost of listing the
-/// test's runs.
+/// Positions of instructions stay, and lines but for those of a `filter`. Linear in the bytes; of accesses of 64 bits,
+/// and of loops, also the cost of listing the test's runs.
 pub fn plain_form(alloc: Global, bytes: &[u8], forms: Forms) -> Result<Option<Plain>, Unplain> {
     let Some(body) = skip_title(bytes) else {
         return Ok(None);
@@ -299,21 +393,54 @@ pub fn plain_form(alloc: Global, bytes: &[u8], forms: Forms) -> Result<Option<Pl
     if !sheet.is_whole {
         return Ok(None);
     }
-    if !is_wide(bytes, &lexemes, &sheet) {
-        return Ok(unrolled(alloc, bytes, &lexemes, &sheet, forms)?);
-    }
-    if has_great_number(bytes, &lexemes) {
+    let is_wide = is_wide(bytes, &lexemes, &sheet);
+    if is_wide && has_great_number(bytes, &lexemes) {
         return Err(Unplain::Number);
     }
-    let narrow = narrowed(alloc, bytes, &lexemes, &sheet)?;
-    let (text, is_guarded) = match unrolled(alloc, &narrow, &lexemes, &sheet, forms)? {
-        Some(plain) => (plain.text, true),
-        None => (narrow, false),
+    let Some(made) = made_of(alloc, bytes, &lexemes, &sheet, forms, is_wide)? else {
+        return Ok(None);
     };
-    check_words(alloc, &text)?;
+    let source = Source {
+        bytes,
+        lexemes: &lexemes,
+        tail: sheet.tail,
+    };
+    let turns = checked(alloc, source, &made, is_wide)?;
     Ok(Some(Plain {
-        text,
-        is_guarded,
-        is_wide: true,
+        text: made.text,
+        file: None,
+        turns,
+        is_guarded: made.is_guarded,
+        is_wide,
     }))
+}
+
+/// Do both have the same words and signs? Linear in the texts.
+fn have_same_words(alloc: Global, one: &[u8], other: &[u8]) -> Result<bool, AllocError> {
+    let of_one = lexemes(alloc, one, 0)?;
+    let of_other = lexemes(alloc, other, 0)?;
+    for number in 0..of_one.len().max(of_other.len()) {
+        if word_at(one, &of_one, number) != word_at(other, &of_other, number) {
+            return Ok(false);
+        }
+    }
+    Ok(true)
+}
+
+/// The file with a change that was made in its plain form: with lines put in, or parts of cells changed. Nothing where
+/// that can't be done, or the file with it would have another plain form. The cost is that of `plain_form`.
+pub fn in_file(
+    alloc: Global,
+    file: &[u8],
+    plain: &[u8],
+    changed: &[u8],
+    forms: Forms,
+) -> Result<Option<Vec<u8>>, Unplain> {
+    let Some(made) = restored(alloc, file, plain, changed)? else {
+        return Ok(None);
+    };
+    match plain_form(alloc, &made, forms)? {
+        Some(again) if have_same_words(alloc, &again.text, changed)? => Ok(Some(made)),
+        _ => Ok(None),
+    }
 }

@@ -105,6 +105,20 @@ pub fn widened(alloc: Global, text: &[u8]) -> Result<Vec<u8>, AllocError> {
     with_signs(alloc, &wide, &lexemes)
 }
 
+/// The text with accesses of 64 bits wherever it names those of a word. Linear in the text.
+pub fn widened_words(alloc: Global, text: &[u8]) -> Result<Vec<u8>, AllocError> {
+    let mut made = Vec::from_slice(alloc, text)?;
+    for lexeme in lexemes(alloc, text, 0)? {
+        if let Some((Width::Word, number)) = width_of(lexeme.word(text)) {
+            let at = lexeme.start.saturating_add(number);
+            if at < made.len() {
+                made[at] = b'd';
+            }
+        }
+    }
+    Ok(made)
+}
+
 /// Is it a number, however great?
 fn is_number(word: &str) -> bool {
     match word.strip_prefix("0x") {
