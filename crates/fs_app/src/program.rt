@@ -156,13 +156,14 @@ pub(crate) fn say_notes<R: Files + Eprint + AllocGlobal>(rt: &R, voice: Voice, n
 
 /// Which forms of tests are read. One that is held against a log has no other condition than the log's.
 fn forms_of(request: &Request<'_>) -> Forms {
-    let has_log = match &request.task {
-        Task::States(states) => states.log.is_some(),
-        _ => false,
+    let (has_log, all) = match &request.task {
+        Task::States(states) => (states.log.is_some(), states.all),
+        _ => (false, false),
     };
     Forms {
         unroll: request.unroll,
         filter: !has_log,
+        all,
     }
 }
 

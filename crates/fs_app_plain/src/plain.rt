@@ -8,7 +8,7 @@ use crate::lexemes::{Lexeme, lexemes, part, word_at};
 use crate::loops::{Loops, Turn, loops_of, push_next_turn};
 use crate::restore::restored;
 use crate::sheet::{Sheet, sheet_of};
-use crate::turns::{OneTurn, doubtful};
+use crate::turns::{OneTurn, Registers, doubtful, read_at_end};
 use crate::width::{has_great_number, is_wide, narrowed};
 use crate::words::inexact;
 use fs_kinds::Fault;
@@ -24,6 +24,9 @@ pub struct Forms {
     pub unroll: bool,
     /// A `filter`.
     pub filter: bool,
+    /// Whether all registers are shown that a test has at the end. Then loops may not change those either that the file
+    /// doesn't name behind its rows.
+    pub all: bool,
 }
 
 /// A text in the reader's form.
@@ -333,20 +336,12 @@ fn check_words(alloc: Global, test: &Test) -> Result<(), Unplain>
     }
 }
 
-/// What is looked at in the file of a text that was made.
-#[derive(Clone, Copy)]
-struct Source<'a> {
-    bytes: &'a [u8],
-    lexemes: &'a [Lexeme],
-    tail: usize,
-}
-
 /// The loops of the text of which one turn may not be as good as several, once it is known to be a test that is the
 /// same with the accesses that the file has. Nothing where it is no test.
 fn checked(
     alloc: Global,
-    source: Source<'_>,
     made: &Made,
+    at_end: &[Registers],
     is_wide: bool,
 ) -> Result<Vec<OneTurn>, Unplain> {
     if !is_wide && made.turns.is_empty() {
@@ -363,14 +358,7 @@ fn checked(
     if made.turns.is_empty() {
         return Ok(Vec::new(alloc));
     }
-    Ok(doubtful(
-        alloc,
-        &test,
-        &made.turns,
-        source.bytes,
-        source.lexemes,
-        source.tail,
-    )?)
+    Ok(doubtful(alloc, &test, &made.turns, at_end)?)
 }
 
 /// The text of a test file in the reader's form; nothing where it is in that, or in no form that is known.
@@ -400,12 +388,8 @@ pub fn plain_form(alloc: Global, bytes: &[u8], forms: Forms) -> Result<Option<Pl
     let Some(made) = made_of(alloc, bytes, &lexemes, &sheet, forms, is_wide)? else {
         return Ok(None);
     };
-    let source = Source {
-        bytes,
-        lexemes: &lexemes,
-        tail: sheet.tail,
-    };
-    let turns = checked(alloc, source, &made, is_wide)?;
+    let at_end = read_at_end(alloc, bytes, &lexemes, sheet.tail, forms.all)?;
+    let turns = checked(alloc, &made, &at_end, is_wide)?;
     Ok(Some(Plain {
         text: made.text,
         file: None,

@@ -40,7 +40,7 @@ pub struct OneTurn {
 
 /// A set of registers.
 #[derive(Clone, Copy)]
-struct Registers {
+pub(crate) struct Registers {
     /// Bit n is 1 where register n is one of them.
     bits: u32,
 }
@@ -50,7 +50,11 @@ impl Registers {
         Registers { bits: 0 }
     }
 
-    /// The register alone. x0 is in no set.
+    fn all() -> Registers {
+        Registers { bits: u32::MAX }
+    }
+
+    /// The register alone; nothing of x0.
     fn only(register: Reg) -> Registers {
         let number = u32::from(register.number());
         Registers {
@@ -99,14 +103,21 @@ fn read_by(instr: Instr) -> Registers {
     Registers::of(first).and(Registers::of(second))
 }
 
-/// The registers of each hart that what stands behind the rows names. Linear in the lexemes.
-fn named(
+/// The registers of each hart that are read at its end: all; or those that the words of a text name from this lexeme
+/// on. Linear in the lexemes.
+pub(crate) fn read_at_end(
     alloc: Global,
     text: &[u8],
     lexemes: &[Lexeme],
     tail: usize,
+    all: bool,
 ) -> Result<Vec<Registers>, AllocError> {
-    let mut found = Vec::from_array(alloc, [Registers::none(); MOST_HARTS])?;
+    let before = if all {
+        Registers::all()
+    } else {
+        Registers::none()
+    };
+    let mut found = Vec::from_array(alloc, [before; MOST_HARTS])?;
     for number in tail..lexemes.len() {
         let register = Reg::of(word_at(text, lexemes, number.saturating_add(2)));
         if word_at(text, lexemes, number.saturating_add(1)) == ":" {
@@ -292,17 +303,14 @@ fn unlisted(alloc: Global, turns: &[Turn]) -> Result<Vec<OneTurn>, AllocError> {
 
 /// The loops of which one turn may not be as good as several, of a test in which each of these branches goes behind its
 /// hart's code. One is as good where a turn that goes back began at the label, stores nothing but what it loaded, and
-/// writes no register that may be read behind the branch, be it by the condition, before it is written again. What
-/// stands behind the rows begins at the lexeme `tail`.
+/// writes no register that may be read behind the branch, be it at the end, before it is written again.
 ///
 /// Linear in the runs of the test, whose listing costs what `all_runs` does.
 pub(crate) fn doubtful(
     alloc: Global,
     test: &Test,
     turns: &[Turn],
-    text: &[u8],
-    lexemes: &[Lexeme],
-    tail: usize,
+    at_end: &[Registers],
 ) -> Result<Vec<OneTurn>, AllocError>
     requires test { IsBounded test.now }
     requires starts { All IsStart test.now.starts }
@@ -312,7 +320,6 @@ pub(crate) fn doubtful(
         Err(Fault::Memory) => return Err(AllocError),
         Err(_) => return unlisted(alloc, turns),
     };
-    let at_end = named(alloc, text, lexemes, tail)?;
     let mut found = Vec::new(alloc);
     for (hart, instructions) in test.codes.as_slice().iter().enumerate() {
         if let (Some(runs), Some(at_end)) = (runs.get(hart), at_end.get(hart)) {
