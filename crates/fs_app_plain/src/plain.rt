@@ -284,14 +284,12 @@ fn unrolled(
     let Some(making) = Making::new(alloc, bytes, lexemes, sheet, forms)? else {
         return Ok(None);
     };
-    let text = making.made(alloc)?;
-    let Making { loops, .. } = making;
-    let turns = match loops {
-        Some(Loops { turns, .. }) => turns,
+    let turns = match &making.loops {
+        Some(loops) => Vec::from_slice(alloc, &loops.turns)?,
         None => Vec::new(alloc),
     };
     Ok(Some(Made {
-        text,
+        text: making.made(alloc)?,
         turns,
         is_guarded: true,
     }))

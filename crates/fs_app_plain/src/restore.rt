@@ -98,7 +98,7 @@ fn push_changed(
     plain: &[u8],
     changed: &[u8],
 ) -> Result<bool, AllocError> {
-    let (mut of_file, mut of_plain, mut of_changed) = (0, 0, 0);
+    let (mut of_file, mut of_plain, mut of_changed) = (0usize, 0usize, 0usize);
     for _ in file {
         if of_file < file.len() {
             let cell = piece(file, of_file, b"|;");
@@ -134,7 +134,7 @@ fn ends_cell(text: &[u8], at: usize) -> bool {
 
 /// Appends a line that was put in. Where a cell is blank it is as long as that of the file's line behind it.
 fn push_new(made: &mut Vec<u8>, file: &[u8], line: &[u8]) -> Result<(), AllocError> {
-    let (mut of_file, mut of_line) = (0, 0);
+    let (mut of_file, mut of_line) = (0usize, 0usize);
     for _ in line {
         if of_line < line.len() {
             let file_cell = piece(file, of_file, b"|;");
@@ -165,7 +165,7 @@ pub(crate) fn restored(
 ) -> Result<Option<Vec<u8>>, AllocError> {
     let has_more = line_count(changed) != line_count(plain);
     let mut made = Vec::new(alloc);
-    let (mut of_file, mut of_plain, mut of_changed) = (0, 0, 0);
+    let (mut of_file, mut of_plain, mut of_changed) = (0usize, 0usize, 0usize);
     let mut file_line = piece(file, 0, b"\n");
     let mut plain_line = piece(plain, 0, b"\n");
     for _ in changed {

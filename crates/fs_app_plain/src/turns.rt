@@ -98,7 +98,7 @@ impl Registers {
 }
 
 /// The registers that the instruction reads.
-fn read_by(instr: Instr) -> Registers {
+fn read_by(instr: &Instr) -> Registers {
     let [first, second] = instr.sources();
     Registers::of(first).and(Registers::of(second))
 }
@@ -153,13 +153,20 @@ impl<'a> HartCode<'a> {
 
     /// The registers that may be read behind the instruction before they are written, where these are those of each
     /// position.
-    fn read_behind(self, live: &[Registers], at: usize, instr: Instr) -> Registers {
+    fn read_behind(self, live: &[Registers], at: usize, instr: &Instr) -> Registers {
         let next = live_at(live, at.saturating_add(1));
         match instr {
-            Instr::Branch { target, .. } => next.and(live_at(live, self.target(at, target))),
-            Instr::Jump { target } => live_at(live, self.target(at, target)),
+            Instr::Branch { target, .. } => next.and(live_at(live, self.target(at, *target))),
+            Instr::Jump { target } => live_at(live, self.target(at, *target)),
             _ => next,
         }
+    }
+
+    /// The registers that may be read from the instruction on before they are written.
+    fn read_from(self, live: &[Registers], at: usize, instr: &Instr) -> Registers {
+        let behind = self.read_behind(live, at, instr);
+        let written = Registers::of(instr.dest());
+        behind.without(written).and(read_by(instr))
     }
 
     /// Goes once through the code, from its end on. Was nothing new found?
@@ -167,11 +174,7 @@ impl<'a> HartCode<'a> {
         let mut is_done = true;
         for before in 0..self.instructions.len() {
             let at = self.instructions.len() - 1 - before;
-            let instr = self.instructions[at];
-            let found = self
-                .read_behind(live, at, instr)
-                .without(Registers::of(instr.dest()))
-                .and(read_by(instr));
+            let found = self.read_from(live, at, &self.instructions[at]);
             if at < live.len() && live[at].bits != found.bits {
                 live[at] = found;
                 is_done = false;
