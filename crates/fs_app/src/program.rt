@@ -135,7 +135,10 @@ fn status_of_run<
     match answer(rt, &request.task, voice, &mut papers) {
         Ok(output) => {
             let output = as_in_file(rt.alloc(), &request.task, output, &papers)?;
-            say_notes(rt, voice, papers.notes.as_str());
+            // these two say nothing of all executions
+            if !matches!(request.task, Task::Place(_) | Task::Order(_)) {
+                say_notes(rt, voice, papers.notes.as_str());
+            }
             print(rt, &output)
         }
         Err(fault) => {
