@@ -22,6 +22,8 @@ pub enum Doubt {
     Stores { hart: usize, at: u8 },
     #[error("x{0} may be read before a turn writes it again")]
     Reads(u8),
+    #[error("an sc.w may be paired with an lr.w of the turn before")]
+    Paired,
     #[error("it may begin behind the label")]
     Entered,
     #[error("its runs can't be listed")]
@@ -38,10 +40,10 @@ pub struct OneTurn {
     pub doubt: Doubt,
 }
 
-/// A set of registers.
+/// A set of registers, and maybe the reservation of an lr.w: what one instruction leaves for another.
 #[derive(Clone, Copy)]
 pub(crate) struct Registers {
-    /// Bit n is 1 where register n is one of them.
+    /// Bit n is 1 where register n is one of them, and bit 0 where the reservation is.
     bits: u32,
 }
 
@@ -50,8 +52,13 @@ impl Registers {
         Registers { bits: 0 }
     }
 
+    fn reservation() -> Registers {
+        Registers { bits: 1 }
+    }
+
+    /// All registers.
     fn all() -> Registers {
-        Registers { bits: u32::MAX }
+        Registers { bits: u32::MAX - 1 }
     }
 
     /// The register alone; nothing of x0.
@@ -85,22 +92,38 @@ impl Registers {
         }
     }
 
-    /// The least register of both.
-    fn shared(self, other: Registers) -> Option<u8> {
+    /// What is doubtful where both have something: the reservation, or else the least register.
+    fn doubt(self, other: Registers) -> Option<Doubt> {
         let bits = self.bits & other.bits;
-        for number in 0..32_u8 {
+        if bits & 1 == 1 {
+            return Some(Doubt::Paired);
+        }
+        for number in 1..32_u8 {
             if bits >> number & 1 == 1 {
-                return Some(number);
+                return Some(Doubt::Reads(number));
             }
         }
         None
     }
 }
 
-/// The registers that the instruction reads.
+/// What the instruction reads.
 fn read_by(instr: &Instr) -> Registers {
     let [first, second] = instr.sources();
-    Registers::of(first).and(Registers::of(second))
+    let registers = Registers::of(first).and(Registers::of(second));
+    match instr {
+        Instr::Sc { .. } => registers.and(Registers::reservation()),
+        _ => registers,
+    }
+}
+
+/// What the instruction writes.
+fn written_by(instr: &Instr) -> Registers {
+    let registers = Registers::of(instr.dest());
+    match instr {
+        Instr::Lr { .. } => registers.and(Registers::reservation()),
+        _ => registers,
+    }
 }
 
 /// The registers of each hart that are read at its end: all; or those that the words of a text name from this lexeme
@@ -165,8 +188,7 @@ impl<'a> HartCode<'a> {
     /// The registers that may be read from the instruction on before they are written.
     fn read_from(self, live: &[Registers], at: usize, instr: &Instr) -> Registers {
         let behind = self.read_behind(live, at, instr);
-        let written = Registers::of(instr.dest());
-        behind.without(written).and(read_by(instr))
+        behind.without(written_by(instr)).and(read_by(instr))
     }
 
     /// Goes once through the code, from its end on. Was nothing new found?
@@ -199,12 +221,12 @@ impl<'a> HartCode<'a> {
         Ok(live)
     }
 
-    /// The registers that the instructions of a turn write.
+    /// What the instructions of a turn write.
     fn written_in(self, turn: Turn) -> Registers {
         let mut written = Registers::none();
         for at in turn.to..turn.at {
             if let Some(instr) = self.instructions.get(at) {
-                written = written.and(Registers::of(instr.dest()));
+                written = written.and(written_by(instr));
             }
         }
         written
@@ -261,8 +283,8 @@ fn doubt_in_runs(turn: Turn, runs: &[Trace]) -> Option<Doubt> {
 
 /// What is doubtful of the loop: what its turns hand on, or what its runs do.
 fn doubt_of(code: HartCode<'_>, live: &[Registers], turn: Turn, runs: &[Trace]) -> Option<Doubt> {
-    match code.written_in(turn).shared(live_at(live, turn.to)) {
-        Some(register) => Some(Doubt::Reads(register)),
+    match code.written_in(turn).doubt(live_at(live, turn.to)) {
+        Some(doubt) => Some(doubt),
         None => doubt_in_runs(turn, runs),
     }
 }
@@ -306,7 +328,8 @@ fn unlisted(alloc: Global, turns: &[Turn]) -> Result<Vec<OneTurn>, AllocError> {
 
 /// The loops of which one turn may not be as good as several, of a test in which each of these branches goes behind its
 /// hart's code. One is as good where a turn that goes back began at the label, stores nothing but what it loaded, and
-/// writes no register that may be read behind the branch, be it at the end, before it is written again.
+/// writes no register that may be read behind the branch, be it at the end, before it is written again; a reservation is
+/// as a register here.
 ///
 /// Linear in the runs of the test, whose listing costs what `all_runs` does.
 pub(crate) fn doubtful(
