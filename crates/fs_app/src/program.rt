@@ -159,15 +159,23 @@ pub(crate) fn say_notes<R: Files + Eprint + AllocGlobal>(rt: &R, voice: Voice, n
 
 /// Which forms of tests are read. One that is held against a log has no other condition than the log's.
 fn forms_of(request: &Request<'_>) -> Forms {
-    let (has_log, all) = match &request.task {
-        Task::States(states) => (states.log.is_some(), states.all),
-        _ => (false, false),
-    };
-    Forms {
+    let mut forms = Forms {
         unroll: request.unroll,
-        filter: !has_log,
-        all,
+        filter: true,
+        sites: false,
+        all: false,
+    };
+    match &request.task {
+        Task::States(states) => {
+            forms.filter = states.log.is_none();
+            forms.all = states.all;
+        }
+        Task::Sites(_) | Task::AuditSites(_) | Task::CheckSites(_) => forms.sites = true,
+        Task::Place(place) => forms.sites = place.sites,
+        Task::Order(order) => forms.sites = order.sites,
+        _ => {}
     }
+    forms
 }
 
 /// The output in the form of the file that was read, of whose plain form it speaks: a test, or what is told of one.

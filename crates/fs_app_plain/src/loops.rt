@@ -3,12 +3,13 @@
 use crate::lexemes::{Lexeme, part, word_at};
 use crate::sheet::{Instruction, Label, MOST_HARTS, Sheet};
 use fs_instr::Reg;
+use fs_litmus_tokens::number_of;
 use std::alloc::{AllocError, Global};
 
 /// How many registers a hart has.
 const REGISTERS: usize = 32;
 
-/// A label to which branches go that have no other turn to make.
+/// How the label begins to which branches go that have no other turn to make.
 const NEXT_TURN: &str = "NextTurn";
 
 /// A branch that goes back, by positions in its hart's code.
@@ -34,8 +35,8 @@ pub(crate) struct Loops {
     pub(crate) harts: Vec<bool>,
     /// A register that the file doesn't name.
     pub(crate) register: usize,
-    /// A label that it doesn't name, but for `_` at its end.
-    pub(crate) unders: usize,
+    /// A label that it doesn't name, to which branches go that have no other turn to make.
+    pub(crate) next_turn: String,
 }
 
 fn is_branch(mnemonic: &str) -> bool {
@@ -133,7 +134,7 @@ fn labels_behind(
     Ok(found)
 }
 
-/// Does an instruction that doesn't go back end in this label?
+/// Does a branch that doesn't go back end in this label?
 fn is_ahead(
     text: &[u8],
     lexemes: &[Lexeme],
@@ -147,6 +148,7 @@ fn is_ahead(
         let word = word_at(text, lexemes, instruction.last);
         if instruction.hart == label.hart
             && !goes_back
+            && is_branch(word_at(text, lexemes, instruction.mnemonic))
             && (word == name || is_numbered(name, word, 'f'))
         {
             return true;
@@ -175,15 +177,34 @@ fn free_register(alloc: Global, text: &[u8], lexemes: &[Lexeme]) -> Result<usize
     Ok(0)
 }
 
-/// How many `_` make the label longer than each word of the file that begins with it.
-fn unders(text: &[u8], lexemes: &[Lexeme]) -> usize {
-    let mut most = 0;
+/// The least number behind `NextTurn` with which no word of the file has it; 0 stands for none. Linear in the lexemes.
+fn free_number(alloc: Global, text: &[u8], lexemes: &[Lexeme]) -> Result<usize, AllocError> {
+    let mut named = Vec::new(alloc);
+    for _ in 0..lexemes.len() {
+        named.push(false)?;
+    }
     for lexeme in lexemes {
         if let Some(more) = lexeme.word(text).strip_prefix(NEXT_TURN) {
-            most = more.len().saturating_add(1).max(most);
+            let number = number_of(more).unwrap_or(0) as usize;
+            if number < named.len() {
+                named[number] = true;
+            }
         }
     }
-    most
+    for number in 0..named.len() {
+        if !named[number] {
+            return Ok(number);
+        }
+    }
+    Ok(named.len())
+}
+
+/// The label of this number.
+fn next_turn(alloc: Global, number: usize) -> Result<String, AllocError> {
+    if number == 0 {
+        return String::from_str(alloc, NEXT_TURN);
+    }
+    format!(in alloc; "{NEXT_TURN}{number}")
 }
 
 /// A place in a text: its byte, and its line, from 1 on.
@@ -259,23 +280,15 @@ pub(crate) fn loops_of(
     if branches.is_empty() || register == 0 {
         return Ok(None);
     }
+    let number = free_number(alloc, text, lexemes)?;
     Ok(Some(Loops {
         turns,
         branches,
         labels,
         harts,
         register,
-        unders: unders(text, lexemes),
+        next_turn: next_turn(alloc, number)?,
     }))
-}
-
-/// Appends the label to which branches go that have no other turn to make.
-pub(crate) fn push_next_turn(text: &mut Vec<u8>, unders: usize) -> Result<(), AllocError> {
-    text.extend_from_slice(NEXT_TURN.as_bytes())?;
-    for _ in 0..unders {
-        text.push(b'_')?;
-    }
-    Ok(())
 }
 
 /// Appends a row with this cell in the columns of these harts.
@@ -308,10 +321,8 @@ impl Loops {
     ) -> Result<(), AllocError> {
         let mark = format!(in alloc; "li x{},1", self.register)?;
         push_row(text, columns, &self.harts, mark.as_bytes())?;
-        let mut label = Vec::new(alloc);
-        push_next_turn(&mut label, self.unders)?;
-        label.push(b':')?;
-        push_row(text, columns, &self.harts, &label)
+        let label = format!(in alloc; "{}:", self.next_turn.as_str())?;
+        push_row(text, columns, &self.harts, label.as_bytes())
     }
 
     /// Appends for each hart with a loop that its register is 1, joined by `/\`.

@@ -5,7 +5,7 @@ ghost use Rattle.fs_model.specs.Test.{IsBounded, IsStart};
 
 use crate::guard::{Asked, asked_of, is_balanced, push_line};
 use crate::lexemes::{Lexeme, lexemes, part, word_at};
-use crate::loops::{Loops, Turn, loops_of, push_next_turn};
+use crate::loops::{Loops, Turn, loops_of};
 use crate::restore::restored;
 use crate::sheet::{Sheet, sheet_of};
 use crate::turns::{OneTurn, Registers, doubtful, read_at_end};
@@ -24,6 +24,8 @@ pub struct Forms {
     pub unroll: bool,
     /// A `filter`.
     pub filter: bool,
+    /// Whether labels name sites. Those that name loops alone are none.
+    pub sites: bool,
     /// Whether all registers are shown that a test has at the end. Then loops may not change those either that the file
     /// doesn't name behind its rows.
     pub all: bool,
@@ -134,13 +136,17 @@ fn set_all(marks: &mut [Mark], from: usize, to: usize, mark: Mark) {
     }
 }
 
-fn mark_loops(marks: &mut [Mark], lexemes: &[Lexeme], loops: &Loops) {
+fn mark_branches(marks: &mut [Mark], lexemes: &[Lexeme], loops: &Loops) {
     for branch in &loops.branches {
         if let Some(lexeme) = lexemes.get(*branch) {
             set_all(marks, lexeme.start, lexeme.end, Mark::Gone);
             set(marks, lexeme.start, Mark::NextTurn);
         }
     }
+}
+
+/// Takes out the labels to which no branch is left.
+fn mark_labels(marks: &mut [Mark], lexemes: &[Lexeme], loops: &Loops) {
     for label in &loops.labels {
         // the label and its colon
         if let Some((from, to)) = span(lexemes, *label, label.saturating_add(2)) {
@@ -190,7 +196,10 @@ impl<'a> Making<'a> {
             }
         }
         if let Some(found) = &loops {
-            mark_loops(&mut marks, lexemes, found);
+            mark_branches(&mut marks, lexemes, found);
+            if forms.sites {
+                mark_labels(&mut marks, lexemes, found);
+            }
         }
         Ok(Some(Making {
             bytes,
@@ -228,7 +237,7 @@ impl<'a> Making<'a> {
             Some(Mark::Blank) if byte != b'\n' => text.push(b' ')?,
             Some(Mark::NextTurn) => {
                 if let Some(loops) = &self.loops {
-                    push_next_turn(text, loops.unders)?;
+                    text.extend_from_slice(loops.next_turn.as_bytes())?;
                 }
             }
             Some(Mark::Gone) => {}
