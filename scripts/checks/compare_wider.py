@@ -5,7 +5,7 @@ import re
 import check_certificate as model
 import solve_reference as reference
 from litmus import LOCATIONS, WORDS, Code, Maker, test_text
-from running import rvfence
+from running import PRICES, rvfence
 
 NO_MARK = re.compile(r" ?\d+:x31=\d+;")
 
@@ -133,6 +133,30 @@ def check_notes(run, chance, number):
         run.check(f"the states of {text} in fewer turns", found[0] == found[1] == found[2], found)
 
 
+def check_written(run, chance, number):
+    """A file that `--write` prints has the fences of the answer, in lines of their own, and else is the file."""
+    behind = ["OUT: lw x16,0(x10)", *chance.sample(BEHIND, 1)]
+    beside = ["sw x5,0(x10)", chance.choice(BESIDE), "sw x5,0(x6)"]
+    text = text_of(f"written{number}", [[*turns_of(chance.choice(RETRIES), 1), *behind], beside],
+                   f"exists (0:x11={chance.choice('0111')} /\\ 0:x16=0)")
+    if chance.random() < 0.3:
+        text = re.sub(r"\b[ls]w\b", lambda it: f"{it[0][0]}d", text).replace(".w", ".d")
+    file = run.file("written", text)
+    said = rvfence("solve", "-q", file, PRICES, "--unroll", "1")
+    fences = [re.sub(r"fence (P\d+) (\d+) ", r"\1:\2=", line) for line in said.out.splitlines()[1:]]
+    if said.status or not fences:
+        return
+    run.kinds["files with fences"] += 1
+    made = rvfence("solve", "-q", file, PRICES, "--unroll", "1", "--write").out
+    again = run.file("again", made)
+    run.expect(f"{text} with {fences}", rvfence("place", file, "--unroll", "1", *fences),
+               rvfence("place", again, "--unroll", "1"))
+    run.expect(f"FENCEs in {text}", ("", "", 0), rvfence("audit", "-q", "-i", again, PRICES, "--unroll", "1"))
+    kept = [line.replace("OUT:", "").split() for line in made.splitlines() if not re.search(r"fence r?w?,r?w? ", line)]
+    lines = [line.replace("OUT:", "").split() for line in text.splitlines() if not re.search(r"fence r?w?,r?w? ", line)]
+    run.expect(f"the other lines of {text}", lines, kept)
+
+
 def check_filter(run, chance, number):
     """With a filter the states must be those in which it is true, and the verdict that of both conditions."""
     above, condition = Maker(number).make()[0].decode().rstrip("\n").rsplit("\n", 1)
@@ -189,7 +213,7 @@ def check_wide(run, chance, number):
     run.check(f"where 32 bits aren't enough, {text}", fits or said.err.startswith("fault F20"), said)
 
 
-CHECKS = [check_loops, check_turns, check_notes, check_filter, check_wide]
+CHECKS = [check_loops, check_turns, check_notes, check_written, check_filter, check_wide]
 
 
 def check(run):
