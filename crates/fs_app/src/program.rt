@@ -133,14 +133,7 @@ fn status_of_run<
     let voice = Voice::of(&request, is_terminal);
     let mut papers = Papers::new(rt.alloc(), forms_of(&request));
     match answer(rt, &request.task, voice, &mut papers) {
-        Ok(output) => {
-            let output = as_in_file(rt.alloc(), &request.task, output, &papers)?;
-            // these two say nothing of all executions
-            if !matches!(request.task, Task::Place(_) | Task::Order(_)) {
-                say_notes(rt, voice, papers.notes.as_str());
-            }
-            print(rt, &output)
-        }
+        Ok(output) => print_answer(rt, &request.task, output, voice, &papers),
         Err(fault) => {
             if request.task.is_json() {
                 print_fault(rt, fault, &papers)?;
@@ -148,6 +141,22 @@ fn status_of_run<
             Err(failure_of_task(rt.alloc(), &request.task, fault, voice, &papers))
         }
     }
+}
+
+/// Prints the answer, in the form of the file that was read, once notes on that are said, and gives its status.
+fn print_answer<R: Files + Print + Eprint + AllocGlobal>(
+    rt: &R,
+    task: &Task<'_>,
+    output: Output,
+    voice: Voice,
+    papers: &Papers<'_>,
+) -> Result<Status, Failure> {
+    let output = as_in_file(rt.alloc(), task, output, papers)?;
+    // these two say nothing of all executions
+    if !matches!(task, Task::Place(_) | Task::Order(_)) {
+        say_notes(rt, voice, papers.notes.as_str());
+    }
+    print(rt, &output)
 }
 
 /// Says notes on tests that were read, where there are some.
