@@ -4,7 +4,7 @@ use Rattle.std.specs.Str.{IsUtf8}
 use Rattle.fs_kinds.specs.FaultLine.{number}
 use Rattle.fs_kinds.specs.FaultOrder.{rank_of}
 use Rattle.fs_kinds.specs.declared.fault.Fault.{Fault}
-use Rattle.fs_kinds.specs.declared.fault.Fault.TheVariants.{BadUtf8, NotRiscv, Syntax, UnknownInstr, BadAnnotation, BadLabel, BadInit, BadCondition, TooBig, BadPrices, NoTop, BadFence, TooManyTraces, Astray, TooManyCandidates, NodeLimit, BadWitness, BadCertificate, Memory, ReadFault, WriteFault, Unmatched, StrangePass}
+use Rattle.fs_kinds.specs.declared.fault.Fault.TheVariants.{BadUtf8, NotRiscv, Syntax, UnknownInstr, BadAnnotation, BadLabel, BadInit, BadCondition, TooBig, BadPrices, NoTop, BadFence, TooManyTraces, Astray, TooManyCandidates, NodeLimit, BadWitness, BadCertificate, Memory, ReadFault, WriteFault, Unmatched, StrangePass, BothWidths, WideWord}
 use Rattle.fs_litmus_tokens.specs.Tokens.{Lined}
 use Rattle.fs_litmus.specs.Reads.{HasTokens}
 use Rattle.fs_litmus.specs.Title.{HasBody}
@@ -46,6 +46,8 @@ line_by_number ReadFault = refl
 line_by_number WriteFault = refl
 line_by_number Unmatched = refl
 line_by_number StrangePass = refl
+line_by_number (BothWidths line) = refl
+line_by_number (WideWord hart at) = refl
 
 same_place : (m n r s : ℕ) → (m < n) ⊎ ((m ≡ n) × (r ≤ s)) → (n < m) ⊎ ((n ≡ m) × (s ≤ r)) → (m ≡ n) × (r ≡ s)
 same_place m n r s (inl h) (inl k) = absurd (omega (arith, h, k))
@@ -94,6 +96,8 @@ titled ReadFault e = absurd (cc)
 titled WriteFault e = absurd (cc)
 titled Unmatched e = absurd (cc)
 titled StrangePass e = absurd (cc)
+titled (BothWidths line) e = absurd (cc)
+titled (WideWord hart at) e = absurd (cc)
 
 -- ---- where there is no place
 

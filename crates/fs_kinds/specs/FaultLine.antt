@@ -3,7 +3,7 @@ use Rattle.std.specs.Prelude.{ℕ, List, [], ◌++◌, codes}
 use Rattle.std.specs.Fmt.{decimal}
 use Rattle.fs_kinds.specs.Slot.{place_name}
 use Rattle.fs_kinds.specs.declared.fault.Fault.{Fault}
-use Rattle.fs_kinds.specs.declared.fault.Fault.TheVariants.{BadUtf8, NotRiscv, Syntax, UnknownInstr, BadAnnotation, BadLabel, BadInit, BadCondition, TooBig, BadPrices, NoTop, BadFence, TooManyTraces, Astray, TooManyCandidates, NodeLimit, BadWitness, BadCertificate, Memory, ReadFault, WriteFault, Unmatched, StrangePass}
+use Rattle.fs_kinds.specs.declared.fault.Fault.TheVariants.{BadUtf8, NotRiscv, Syntax, UnknownInstr, BadAnnotation, BadLabel, BadInit, BadCondition, TooBig, BadPrices, NoTop, BadFence, TooManyTraces, Astray, TooManyCandidates, NodeLimit, BadWitness, BadCertificate, Memory, ReadFault, WriteFault, Unmatched, StrangePass, BothWidths, WideWord}
 use Rattle.fs_kinds.specs.declared.fault.Limit.{Limit}
 use Rattle.fs_kinds.specs.declared.fault.Limit.TheVariants.{Harts, Instructions, Accesses, Locations, Depth}
 
@@ -31,6 +31,8 @@ number ReadFault = 20
 number WriteFault = 21
 number Unmatched = 22
 number StrangePass = 23
+number (BothWidths line) = 24
+number (WideWord hart at) = 25
 
 abbrev pub name : Fault → List ℕ
 name BadUtf8 = codes "BadUtf8"
@@ -56,6 +58,8 @@ name ReadFault = codes "ReadFault"
 name WriteFault = codes "WriteFault"
 name Unmatched = codes "Unmatched"
 name StrangePass = codes "StrangePass"
+name (BothWidths line) = codes "BothWidths"
+name (WideWord hart at) = codes "WideWord"
 
 -- what the test has too much of
 abbrev pub limit_word : Limit → List ℕ
@@ -75,8 +79,10 @@ place (UnknownInstr line) = at_line line
 place (BadAnnotation line) = at_line line
 place (BadLabel line) = at_line line
 place (BadInit line) = at_line line
+place (BothWidths line) = at_line line
 place (TooBig what) = codes " " ++ limit_word what
 place (Astray hart at) = codes " " ++ place_name hart at
+place (WideWord hart at) = codes " " ++ place_name hart at
 place _ = []
 
 -- such as `fault F6 BadLabel line 5`

@@ -56,6 +56,10 @@ pub enum Fault {
     Unmatched,
     /// F23: a worker's pass or hand is strange, doubled or missing. No command answers it.
     StrangePass,
+    /// F24: the test has accesses of 64 bits and of a word; the line is that of the first of the other width.
+    BothWidths { line: usize },
+    /// F25: with accesses of 64 bits, the instruction of this number may make a word of more than 32.
+    WideWord { hart: u8, at: u8 },
 }
 
 /// What a test has too much of.
@@ -74,7 +78,7 @@ pub enum Limit {
 }
 
 impl Fault {
-    /// The fault's number, from 1 to 23.
+    /// The fault's number, from 1 to 25.
     pub fn number(self) -> u8
         ensures { result ≡ number self }
     {
@@ -102,6 +106,8 @@ impl Fault {
             Fault::WriteFault => 21,
             Fault::Unmatched => 22,
             Fault::StrangePass => 23,
+            Fault::BothWidths { .. } => 24,
+            Fault::WideWord { .. } => 25,
         }
     }
 }
@@ -135,6 +141,8 @@ impl Fault {
             Fault::WriteFault => "WriteFault",
             Fault::Unmatched => "Unmatched",
             Fault::StrangePass => "StrangePass",
+            Fault::BothWidths { .. } => "BothWidths",
+            Fault::WideWord { .. } => "WideWord",
         }
     }
 }
@@ -211,9 +219,10 @@ impl fmt::Display for Place {
             | Fault::UnknownInstr { line }
             | Fault::BadAnnotation { line }
             | Fault::BadLabel { line }
-            | Fault::BadInit { line } => write!(f, " line {line}"),
+            | Fault::BadInit { line }
+            | Fault::BothWidths { line } => write!(f, " line {line}"),
             Fault::TooBig { what } => write!(f, " {what}"),
-            Fault::Astray { hart, at } => write!(f, " P{hart}:{at}"),
+            Fault::Astray { hart, at } | Fault::WideWord { hart, at } => write!(f, " P{hart}:{at}"),
             _ => Ok(()),
         }
     }
