@@ -203,14 +203,14 @@ def check_wide(run, chance, number):
     text = test_text(f"wide{number}", entries, [[*code, "ld x21,0(x6)"]], "exists 0:x20=0")
     said = rvfence("states", "-q", "--all", run.file("wide", text))
     registers |= {20: in_memory, 21: after}
-    if said.err.startswith("fault F20"):
+    if said.err.startswith("fault F25"):
         run.kinds["wide refused"] += 1
     else:
         run.kinds["wide answered"] += 1
         # register 6 and x by the names of addresses: only numbers of more than 12 bits are any
         wanted = " ".join(f"0:x{it}={word % 2 ** 32};" for it, word in sorted(registers.items()) if it > 10)
         run.expect(f"the states of {text}", [f"{wanted} x={after % 2 ** 32};"], lines_of(said))
-    run.check(f"where 32 bits aren't enough, {text}", fits or said.err.startswith("fault F20"), said)
+    run.check(f"where 32 bits aren't enough, {text}", fits or said.err.startswith("fault F25"), said)
 
 
 CHECKS = [check_loops, check_turns, check_notes, check_written, check_filter, check_wide]

@@ -178,7 +178,20 @@ impl<'a> Papers<'a> {
         in_width(alloc, message, self.is_wide).ok()
     }
 
+    /// The file that wasn't read, and why, where the run ended with this fault for it.
+    fn unread_for(&self, fault: Fault) -> Option<(&'a str, Unusable)> {
+        let (name, why) = self.unread?;
+        if fault != Fault::Memory && why.fault() == fault {
+            Some((name, why))
+        } else {
+            None
+        }
+    }
+
     fn explained(&self, alloc: Global, fault: Fault) -> Result<Option<String>, AllocError> {
+        if let Some((name, why)) = self.unread_for(fault) {
+            return Ok(Some(unread_line(alloc, name, why)?));
+        }
         match fault {
             Fault::BadPrices | Fault::NoTop => explained_json(alloc, &self.prices, fault),
             Fault::BadWitness | Fault::BadCertificate => explained_json(
@@ -190,8 +203,11 @@ impl<'a> Papers<'a> {
                 let text = explain_fences(alloc, self.fences, &self.test.bytes, self.offered())?;
                 Ok(Some(text))
             }
-            Fault::ReadFault => explained_unread(alloc, self.unread),
-            Fault::Memory | Fault::WriteFault | Fault::Unmatched | Fault::StrangePass => Ok(None),
+            Fault::Memory
+            | Fault::ReadFault
+            | Fault::WriteFault
+            | Fault::Unmatched
+            | Fault::StrangePass => Ok(None),
             _ => Ok(Some(explain_all(alloc, self.test.name, &self.test.bytes, fault)?)),
         }
     }
@@ -208,6 +224,10 @@ impl<'a> Papers<'a> {
     /// What the message of the fault that ended the run says, for those who read JSON. None where it has no message. The
     /// error is want of memory.
     pub fn noted(&self, alloc: Global, fault: Fault) -> Result<Option<Noted<'a>>, AllocError> {
+        if let Some((file, why)) = self.unread_for(fault) {
+            let note = note_of_unusable(alloc, why)?;
+            return Ok(Some(Noted { file, note }));
+        }
         match fault {
             Fault::BadPrices | Fault::NoTop => noted_json(alloc, &self.prices, fault),
             Fault::BadWitness | Fault::BadCertificate => noted_json(alloc, &self.evidence, fault),
@@ -216,8 +236,11 @@ impl<'a> Papers<'a> {
                 Ok(Some(self.noted_test(note_of(found))))
             }
             Fault::Syntax { .. } => Ok(Some(self.noted_test(form_note(alloc, &self.test.bytes)?))),
-            Fault::ReadFault => noted_unread(alloc, self.unread),
-            Fault::Memory | Fault::WriteFault | Fault::Unmatched | Fault::StrangePass => Ok(None),
+            Fault::Memory
+            | Fault::ReadFault
+            | Fault::WriteFault
+            | Fault::Unmatched
+            | Fault::StrangePass => Ok(None),
             _ => {
                 let found = locate(alloc, &self.test.bytes, fault)?;
                 Ok(Some(self.noted_test(note_of(found))))
@@ -265,19 +288,6 @@ fn noted_json<'a>(
     }))
 }
 
-fn noted_unread<'a>(
-    alloc: Global,
-    unread: Option<(&'a str, Unusable)>,
-) -> Result<Option<Noted<'a>>, AllocError> {
-    match unread {
-        Some((file, why)) => {
-            let note = note_of_missing(alloc, why)?;
-            Ok(Some(Noted { file, note }))
-        }
-        None => Ok(None),
-    }
-}
-
 fn no_paper<'a>(alloc: Global) -> Paper<'a> {
     Paper {
         name: "",
@@ -291,16 +301,6 @@ fn explained_json(
     fault: Fault,
 ) -> Result<Option<String>, AllocError> {
     Ok(Some(explain_json(alloc, paper.name, &paper.bytes, fault)?))
-}
-
-fn explained_unread(
-    alloc: Global,
-    unread: Option<(&str, Unusable)>,
-) -> Result<Option<String>, AllocError> {
-    match unread {
-        Some((name, why)) => Ok(Some(unread_line(alloc, name, why)?)),
-        None => Ok(None),
-    }
 }
 
 /// The line that says why the file wasn't read.
@@ -342,7 +342,7 @@ pub fn note_of_file(
             Some(found) => Ok(Some(note_of(found))),
             None => Ok(None),
         },
-        Err(why) => Ok(Some(note_of_missing(alloc, *why)?)),
+        Err(why) => Ok(Some(note_of_unusable(alloc, *why)?)),
     }
 }
 
@@ -370,9 +370,9 @@ fn note_of(found: Located) -> Note {
     }
 }
 
-fn note_of_missing(alloc: Global, why: Unusable) -> Result<Note, AllocError> {
+fn note_of_unusable(alloc: Global, why: Unusable) -> Result<Note, AllocError> {
     Ok(Note {
-        line: None,
+        line: why.line(),
         column: None,
         message: format!(in alloc; "{why}")?,
     })

@@ -16,6 +16,14 @@ pub enum Unusable {
 }
 
 impl Unusable {
+    /// The line of the file that it speaks of, where it speaks of one.
+    pub(crate) fn line(self) -> Option<usize> {
+        match self {
+            Unusable::Unplain(Unplain::BothWidths { line }) => Some(line),
+            _ => None,
+        }
+    }
+
     /// The fault of a run that ends by it.
     pub fn fault(self) -> Fault {
         match self {

@@ -33,6 +33,21 @@ pub(crate) fn word_at<'a>(text: &'a [u8], lexemes: &[Lexeme], number: usize) -> 
     }
 }
 
+/// The line in which the lexeme of this number begins, from 1 on. Linear in the text.
+pub(crate) fn line_at(text: &[u8], lexemes: &[Lexeme], number: usize) -> usize {
+    let end = match lexemes.get(number) {
+        Some(lexeme) => lexeme.start,
+        None => 0,
+    };
+    let mut line = 1usize;
+    for byte in part(text, 0, end) {
+        if *byte == b'\n' {
+            line = line.saturating_add(1);
+        }
+    }
+    line
+}
+
 /// Is it part of a word?
 fn is_letter(byte: u8) -> bool {
     byte.is_ascii_alphanumeric() || byte == b'_' || byte == b'.'

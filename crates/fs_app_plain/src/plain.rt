@@ -4,12 +4,12 @@ ghost use Rattle.std.specs.Prelude.{All};
 ghost use Rattle.fs_model.specs.Test.{IsBounded, IsStart};
 
 use crate::guard::{Asked, asked_of, is_balanced, push_line};
-use crate::lexemes::{Lexeme, lexemes, part, word_at};
+use crate::lexemes::{Lexeme, lexemes, line_at, part, word_at};
 use crate::loops::{Loops, Turn, loops_of};
 use crate::restore::restored;
 use crate::sheet::{Sheet, sheet_of};
 use crate::turns::{OneTurn, Registers, doubtful, read_at_end};
-use crate::width::{has_great_number, is_wide, narrowed};
+use crate::width::{Widths, has_great_number, narrowed, widths_of};
 use crate::words::inexact;
 use fs_kinds::Fault;
 use fs_litmus::{read_test, skip_title};
@@ -57,8 +57,10 @@ impl Plain {
 /// Why there is no such text.
 #[derive(Clone, Copy, Debug, Error)]
 pub enum Unplain {
+    #[error("line {line}: accesses of 64 bits don't go with those of a word: all of a test have one width")]
+    BothWidths { line: usize },
     #[error("P{hart}:{at} may make a word of more than 32 bits: with accesses of 64 bits none is judged")]
-    Word { hart: usize, at: u8 },
+    Word { hart: u8, at: u8 },
     #[error("it has a number of more than 31 bits: with accesses of 64 bits none is judged")]
     Number,
     #[error("with accesses of 64 bits its runs must be known, and they can't be listed: {0}")]
@@ -71,8 +73,11 @@ impl Unplain {
     /// The fault of a run that ends by it.
     pub fn fault(self) -> Fault {
         match self {
+            Unplain::BothWidths { line } => Fault::BothWidths { line },
+            Unplain::Word { hart, at } => Fault::WideWord { hart, at },
+            Unplain::Number => Fault::ReadFault,
+            Unplain::Runs(fault) => fault,
             Unplain::NoMemory => Fault::Memory,
-            _ => Fault::ReadFault,
         }
     }
 }
@@ -327,6 +332,18 @@ fn made_of(
     }))
 }
 
+/// Is what was made a test?
+fn reads(alloc: Global, made: Option<Made>) -> Result<bool, Unplain> {
+    let Some(made) = made else {
+        return Ok(false);
+    };
+    match read_test(alloc, &made.text) {
+        Ok(_) => Ok(true),
+        Err(Fault::Memory) => Err(Unplain::NoMemory),
+        Err(_) => Ok(false),
+    }
+}
+
 /// Is it a test that is the same with accesses of 64 bits?
 fn check_words(alloc: Global, test: &Test) -> Result<(), Unplain>
     requires test { IsBounded test.now }
@@ -334,7 +351,7 @@ fn check_words(alloc: Global, test: &Test) -> Result<(), Unplain>
 {
     match inexact(alloc, test) {
         Ok(Some(place)) => Err(Unplain::Word {
-            hart: place.hart,
+            hart: place.hart as u8,
             at: place.at,
         }),
         Ok(None) => Ok(()),
@@ -371,7 +388,8 @@ fn checked(
 /// The text of a test file in the reader's form; nothing where it is in that, or in no form that is known.
 ///
 /// - Where all accesses have 64 bits, accesses of a word stand in their place. It is refused where a run of the test
-///   makes a word that takes more than 32 bits with its sign, or its runs can't be listed.
+///   makes a word that takes more than 32 bits with its sign, or its runs can't be listed. So is a file that would be a
+///   test if all its accesses had one width.
 /// - A `filter` becomes part of the condition.
 /// - Where it is asked for, each branch that goes back ends its hart's attempt: it goes to the end of the code, past an
 ///   instruction that writes 1 to a register which the file doesn't name, and the condition asks that this is 1.
@@ -388,7 +406,15 @@ pub fn plain_form(alloc: Global, bytes: &[u8], forms: Forms) -> Result<Option<Pl
     if !sheet.is_whole {
         return Ok(None);
     }
-    let is_wide = is_wide(bytes, &lexemes, &sheet);
+    let widths = widths_of(bytes, &lexemes, &sheet);
+    if let Widths::Both(other) = widths {
+        let made = made_of(alloc, bytes, &lexemes, &sheet, forms, true)?;
+        if reads(alloc, made)? {
+            let line = line_at(bytes, &lexemes, other);
+            return Err(Unplain::BothWidths { line });
+        }
+    }
+    let is_wide = matches!(widths, Widths::Doubles);
     if is_wide && has_great_number(bytes, &lexemes) {
         return Err(Unplain::Number);
     }

@@ -45,17 +45,33 @@ fn width_of(mnemonic: &str) -> Option<(Width, usize)> {
     }
 }
 
-/// Does each access that there is have 64 bits?
-pub(crate) fn is_wide(text: &[u8], lexemes: &[Lexeme], sheet: &Sheet) -> bool {
-    let mut is_wide = false;
+/// Which widths the accesses of a test have.
+#[derive(Clone, Copy)]
+pub(crate) enum Widths {
+    /// None has 64 bits.
+    Words,
+    /// Each that there is has 64 bits.
+    Doubles,
+    /// The first access of another width than the first one is the instruction with this mnemonic, by its lexeme.
+    Both(usize),
+}
+
+/// Which widths the accesses of the test have.
+pub(crate) fn widths_of(text: &[u8], lexemes: &[Lexeme], sheet: &Sheet) -> Widths {
+    let mut first = None;
     for instruction in &sheet.instructions {
-        match width_of(word_at(text, lexemes, instruction.mnemonic)) {
-            Some((Width::Word, _)) => return false,
-            Some((Width::Double, _)) => is_wide = true,
-            None => {}
+        let Some((width, _)) = width_of(word_at(text, lexemes, instruction.mnemonic)) else {
+            continue;
+        };
+        match first {
+            Some(found) if found != width => return Widths::Both(instruction.mnemonic),
+            _ => first = Some(width),
         }
     }
-    is_wide
+    match first {
+        Some(Width::Double) => Widths::Doubles,
+        _ => Widths::Words,
+    }
 }
 
 /// The text with this letter in each mnemonic of an access of the width.
