@@ -1,0 +1,3 @@
+pub mod Instructions64
+pub mod Turns
+pub mod Wide
