@@ -1,43 +1,13 @@
--- Tests on signed numbers of 64 bits that say whether a result fits 32: what they compute neither wraps nor is cut.
-use Rattle.std.proofs.Common.{◌≡◌, ℕ, ◌-◌, ◌*◌, ◌%◌, ◌^◌, ◌<◌, ◌≤◌, ℤ, pos, negsuc, ◌+ℤ◌, ◌-ℤ◌, ◌*ℤ◌, ◌≤ℤ◌, unsigned_abs, FitsSigned, inl, inr, ap, ◌∙◌, arith, pow_mono}
-use Rattle.std.specs.Int.{w32, w64, cast_signed, saturate_signed}
-use Rattle.std.proofs.lemmas.Bool.{cases_lt}
-use Rattle.std.proofs.lemmas.Int.{ints, fits_signed_mul, to_z_pos}
+-- Whether a word, moved to the left, fits 32 bits, is asked of a product in 64, which neither wraps nor is cut.
+use Rattle.std.proofs.Common.{◌≡◌, ℕ, ◌*◌, ◌%◌, ◌^◌, ◌<◌, ◌≤◌, ℤ, pos, negsuc, ◌*ℤ◌, unsigned_abs, FitsSigned, ap, ◌∙◌, arith, pow_mono}
+use Rattle.std.specs.Int.{w32, w64, cast_signed, cast_unsigned, saturate_signed}
+use Rattle.std.proofs.lemmas.Int.{fits_signed_mul, to_z-of_z, to_z_pos}
 use Rattle.std.proofs.lemmas.Nat.{pow_below}
-use Rattle.fs_model_wider_forms.proofs.WordsExtended.{signed_great}
-
--- ---- the least and the greatest number of 32 bits
-
-pub fits_between : (z : ℤ) → negsuc (2 ^ 31 - 1) ≤ℤ z → z ≤ℤ pos (2 ^ 31 - 1) → FitsSigned w32 z
-fits_between z low high = omega (arith, ints)
-
-pub fits_at_least : (z : ℤ) → FitsSigned w32 z → negsuc (2 ^ 31 - 1) ≤ℤ z
-fits_at_least z f = omega (arith, ints)
-
-pub fits_at_most : (z : ℤ) → FitsSigned w32 z → z ≤ℤ pos (2 ^ 31 - 1)
-fits_at_most z f = omega (arith, ints)
-
--- a word without a sign
-pub small_from_sign : (w : ℕ) → pos 0 ≤ℤ cast_signed w32 w → w < 2 ^ 32 → w < 2 ^ 31
-small_from_sign w h p = elim (cases_lt w (2 ^ 31)) [
-  | inl small ↦ small
-  | inr great ↦ (let e = signed_great w great p in omega (arith, ints, e))
-]
-
--- ---- nothing is cut in 64 bits
+use Rattle.fs_model_wider_forms.proofs.WordsExtended.{signed_fits, fits_wide}
 
 pub saturated_same : (z : ℤ) → FitsSigned w64 z → saturate_signed w64 z ≡ z
 saturated_same (pos n) f = (let h = f.sfits in ap pos (omega (arith, h)))
 saturated_same (negsuc n) f = (let h = f.sfits in ap negsuc (omega (arith, h)))
-
-pub sum_fits_wide : (x y : ℤ) → FitsSigned w32 x → FitsSigned w32 y → FitsSigned w64 (x +ℤ y)
-sum_fits_wide x y f g = omega (arith, ints)
-
-pub difference_fits_wide : (x y : ℤ) → FitsSigned w32 x → FitsSigned w32 y → FitsSigned w64 (x -ℤ y)
-difference_fits_wide x y f g = omega (arith, ints)
-
-pub power_small : (k : ℕ) → k < 32 → 2 ^ k < 2 ^ 32
-power_small k h = pow_below k 32 h
 
 absolute : (z : ℤ) → FitsSigned w32 z → unsigned_abs z ≤ 2 ^ 31
 absolute (pos n) f = (let h = f.sfits in omega (arith, h))
@@ -53,6 +23,19 @@ product_fits_wide z k f h =
 -- 1, moved to the left
 pub one_moved : (k : ℕ) → k < 32 → cast_signed w64 ((1 * 2 ^ k) % 2 ^ 64) ≡ pos (2 ^ k)
 one_moved k h =
-    let small = power_small k h in
+    let small = pow_below k 32 h in
     let whole : (1 * 2 ^ k) % 2 ^ 64 ≡ 2 ^ k = omega (arith, small) in
     ap (cast_signed w64) whole ∙ to_z_pos w64 (2 ^ k) (omega (arith, small))
+
+-- what is computed of the number and of the power in 64 bits, and then read again, is the product
+pub moved_left : (w k : ℕ) (z r : ℤ) → z ≡ cast_signed w32 w → k < 32
+    → r ≡ saturate_signed w64 (cast_signed w64 (cast_unsigned w64 z) *ℤ cast_signed w64 ((1 * 2 ^ k) % 2 ^ 64))
+    → cast_signed w64 (cast_unsigned w64 r) ≡ cast_signed w32 w *ℤ pos (2 ^ k)
+moved_left w k z r e h is =
+    let word = cast_signed w32 w in
+    let fits = product_fits_wide word k (signed_fits w) h in
+    let fits_word = fits_wide word (signed_fits w) in
+    let back = ap (λ y. cast_signed w64 (cast_unsigned w64 y)) e ∙ to_z-of_z w64 word fits_word in
+    let whole = saturated_same (word *ℤ pos (2 ^ k)) fits in
+    let product = is ∙ (λ i. saturate_signed w64 (back i *ℤ one_moved k h i)) ∙ whole in
+    ap (λ y. cast_signed w64 (cast_unsigned w64 y)) product ∙ to_z-of_z w64 (word *ℤ pos (2 ^ k)) fits

@@ -1,5 +1,5 @@
--- What instructions make of extended words: what they make of the words, extended. So it is always of order and bits, and
--- of sums, differences and shifts where the result fits 32 bits.
+-- What instructions make of extended words: what they make of the words, extended. So it is always of order and bits,
+-- and of sums, differences and shifts where the result fits 32 bits.
 use Rattle.std.proofs.Common.{◌≡◌, ℕ, zero, suc, ◌+◌, ◌-◌, ◌*◌, ◌/◌, ◌%◌, ◌^◌, ◌<◌, nat_lt, ℤ, pos, ◌+ℤ◌, ◌-ℤ◌, ◌*ℤ◌, Bool, true, false, bit_and, bit_or, bit_xor, FitsSigned, if◌then◌else◌, refl, sym, ap, subst, ◌∙◌, arith, mod-eq_of_lt, div-one}
 use Rattle.std.specs.Int.{w32, w64, cast_signed, cast_unsigned, int_shr, int_wrap}
 use Rattle.std.proofs.lemmas.Int.{to_z-of_z, wrapping_add-bits, wrapping_sub-bits, int_wrap_fits, int_wrap-mul_left}
