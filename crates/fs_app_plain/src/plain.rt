@@ -1,7 +1,8 @@
 //! The text of a test file in the reader's form.
 
-ghost use Rattle.std.specs.Prelude.{All};
+ghost use Rattle.std.specs.Prelude.{All, OnOk};
 ghost use Rattle.fs_model.specs.Test.{IsBounded, IsStart};
+ghost use Rattle.fs_model_wider_forms.specs.Wide.{IsExactTest};
 
 use crate::guard::{Asked, asked_of, is_balanced, push_line};
 use crate::lexemes::{Lexeme, lexemes, line_at, part, word_at};
@@ -348,6 +349,7 @@ fn reads(alloc: Global, made: Option<Made>) -> Result<bool, Unplain> {
 fn check_words(alloc: Global, test: &Test) -> Result<(), Unplain>
     requires test { IsBounded test.now }
     requires starts { All IsStart test.now.starts }
+    ensures exact { OnOk result (IsExactTest test.now) }
 {
     match inexact(alloc, test) {
         Ok(Some(place)) => Err(Unplain::Word {

@@ -1,0 +1,3 @@
+pub mod ExactMade
+pub mod ExactSteps
+pub mod ExactRuns
