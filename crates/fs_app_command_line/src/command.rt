@@ -455,7 +455,7 @@ const CHECK_SITES_HELP: &str =
 const FILES_AND_PRICES_HELP: &str = "Litmus tests, folders and @lists, and behind them PRICES";
 
 const UNROLL_HELP: &str =
-    "Read branches that go back, with 1: of executions those in which no loop does";
+    "Read branches that go back, with 1: of executions those in which none does";
 
 const NODES_HELP: &str = "Most nodes that the search may make, 1 to 1000000";
 
@@ -482,7 +482,7 @@ pub struct Request<'a> {
     pub quiet: bool,
     /// Whether a message is to explain a fault.
     pub verbose: bool,
-    /// Whether branches that go back are read: no loop takes a second turn.
+    /// Whether branches that go back are read: of executions those in which none does.
     pub unroll: bool,
 }
 

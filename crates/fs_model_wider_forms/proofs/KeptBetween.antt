@@ -1,13 +1,13 @@
 -- Pairs of lr.w and sc.w, and fences, between steps without the turn are pairs and fences in the whole list.
-use Rattle.std.proofs.Common.{◌≡◌, ℕ, zero, suc, ◌+◌, ◌-◌, ◌<◌, ◌≤◌, List, [], ◌∷◌, length, Bool, true, false, ◌||◌, Option, refl, sym, ap, ◌∙◌, arith}
+use Rattle.std.proofs.Common.{◌≡◌, inl, inr, ℕ, zero, suc, ◌+◌, ◌-◌, ◌<◌, ◌≤◌, List, [], ◌∷◌, length, Bool, true, false, ◌||◌, Option, refl, sym, ap, ◌∙◌, arith}
 use Rattle.std.specs.Prelude.{slice_get}
 use Rattle.std.specs.List.{list_any}
-use Rattle.std.proofs.lemmas.Bool.{or_left, or_right, or_parts, and_parts, and_from, not-true, not_from_false, both_ways, false≢true, ltb-true, lt-ltb}
+use Rattle.std.proofs.lemmas.Bool.{cases_Bool, or_left, or_right, or_parts, and_parts, and_from, not-true, not_from_false, both_ways, false≢true, ltb-true, lt-ltb}
 use Rattle.fs_instr.specs.declared.instr.Instr.{Instr}
 use Rattle.fs_instr.specs.Roles.{is_lr, is_sc}
 use Rattle.fs_model.specs.declared.step.Step.{Step}
 use Rattle.fs_model.specs.Operations.{between, instr_at, are_paired}
-use Rattle.fs_model_wider_forms.specs.Turns.{tries_first}
+use Rattle.fs_model_wider_forms.specs.Turns.{tries_first, reserves}
 use Rattle.fs_model_wider_forms.proofs.Cut.{whole, short, place_there}
 use Rattle.fs_model_wider_forms.proofs.KeptPlaces.{step_there, instr_there, instr_after, place_there_lt, none_between_from, any_there, any_there_up_to, none_there}
 
@@ -19,6 +19,19 @@ tried_at (s ∷ ss) zero e none = or_left (is_sc s.instr) _ e
 tried_at (s ∷ ss) (suc k) e none =
     or_right (is_sc s.instr) _ (and_from _ _ (not_from_false _ (none 0 (omega arith)))
     (tried_at ss k e (λ m low. none (suc m) (omega (arith, low)))))
+
+-- a step of a turn without lr.w and sc.w is neither
+in_turn : (before turn after : List Step) (m : ℕ) → list_any reserves turn ≡ false → length before ≤ m
+    → m < length before + length turn
+    → (is_lr (instr_at (whole before turn after) m) || is_sc (instr_at (whole before turn after) m)) ≡ false
+in_turn [] [] after m quiet above below = absurd (omega (arith, below))
+in_turn [] (s ∷ turn) after zero quiet above below = (or_parts (reserves s) (list_any reserves turn) quiet).0
+in_turn [] (s ∷ turn) after (suc m) quiet above below =
+    in_turn [] turn after m (or_parts (reserves s) (list_any reserves turn) quiet).1 (omega arith)
+    (omega (arith, below))
+in_turn (b ∷ before) turn after zero quiet above below = absurd (omega (arith, above))
+in_turn (b ∷ before) turn after (suc m) quiet above below =
+    in_turn before turn after m quiet (omega (arith, above)) (omega (arith, below))
 
 module _ (before turn after : List Step) where
   abbrev to : ℕ → ℕ
@@ -48,30 +61,39 @@ module _ (before turn after : List Step) where
 
   -- ---- pairs
 
-  abbrev reserves : List Step → ℕ → Bool
-  reserves ss k = is_lr (instr_at ss k) || is_sc (instr_at ss k)
+  abbrev reserves_at : List Step → ℕ → Bool
+  reserves_at ss k = is_lr (instr_at ss k) || is_sc (instr_at ss k)
 
   -- of a pair both are before the turn, or both after it
   not_across : tries_first after ≡ false → (i j : ℕ) → i < length before → length before ≤ j
-      → is_sc (instr_at out j) ≡ true → list_any (reserves out) (between i j) ≡ false → ⊥
+      → is_sc (instr_at out j) ≡ true → list_any (reserves_at out) (between i j) ≡ false → ⊥
   not_across untried i j early late sc none =
       let k = j - length before in
       let here = instr_after before turn after j k (omega (arith, late)) in
       both_ways _ untried (tried_at after k (ap is_sc (sym here) ∙ sc) (λ l less.
       let place = l + length before in
-      let quiet = none_between_from (reserves out) i j place none (omega (arith, early)) (omega (arith, less, late)) in
+      let quiet = none_between_from (reserves_at out) i j place none (omega (arith, early)) (omega (arith, less, late)) in
       ap is_lr (sym (instr_after before turn after place l refl)) ∙ (or_parts _ _ quiet).0))
 
-  pub paired_there : tries_first after ≡ false → (i j : ℕ) → are_paired out i j ≡ true
+  -- none of the turn stands between, where it has one
+  crossed : (list_any reserves turn ≡ true → tries_first after ≡ false) → (i j : ℕ) → is_sc (instr_at out j) ≡ true
+      → list_any (reserves_at out) (between i j) ≡ false → i < length before → length before ≤ j → (m : ℕ)
+      → length before ≤ m → m < length before + length turn → reserves_at all m ≡ false
+  crossed untried i j sc none early late m above below = elim (cases_Bool (list_any reserves turn)) [
+    | inl some ↦ absurd (not_across (untried some) i j early late sc none)
+    | inr quiet ↦ in_turn before turn after m quiet above below
+  ]
+
+  pub paired_there : (list_any reserves turn ≡ true → tries_first after ≡ false) → (i j : ℕ) → are_paired out i j ≡ true
       → are_paired all (to i) (to j) ≡ true
   paired_there untried i j h =
       let parts = and_parts _ _ h in
       let both = and_parts _ _ parts.0 in
       let first = and_parts _ _ both.0 in
       let alone = not-true _ parts.1 in
-      let none = none_there before turn after (reserves out) (reserves all)
+      let none = none_there before turn after (reserves_at out) (reserves_at all)
       (λ k. ap (λ x. is_lr x || is_sc x) (sym (instr_there before turn after k))) i j
-      (λ early late m above below. absurd (not_across untried i j early late both.1 alone)) alone in
+      (crossed untried i j both.1 alone) alone in
       and_from _ _
       (and_from _ _
       (and_from _ _ (lt-ltb (to i) (to j) (place_there_lt before turn after i j (ltb-true i j first.0)))

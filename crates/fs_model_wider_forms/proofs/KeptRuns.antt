@@ -13,7 +13,7 @@ use Rattle.fs_model.specs.declared.step.Step.{Step}
 use Rattle.fs_model.specs.Instructions.{read, address_in, stored_in, result_in, written, next_after}
 use Rattle.fs_model.specs.Runs.{IsAtLocation, Accesses, IsStep, AreSteps, Runs, paired_after, after_step, hart_after, start_with}
 use Rattle.fs_model.specs.Operations.{is_same}
-use Rattle.fs_model_wider_forms.specs.Turns.{reads, writes, is_read_first, tries_first, IsIdle}
+use Rattle.fs_model_wider_forms.specs.Turns.{reads, writes, is_read_first, tries_first, reserves, IsIdle}
 use Rattle.fs_model_wider_forms.proofs.Cut.{whole, short}
 use Rattle.fs_model_wider_forms.proofs.KeptSources.{IsIn, has_to, named_cases, dest_not_zero, ReadAlike, result_same, address_same, stored_same, next_same}
 
@@ -58,7 +58,7 @@ size_after : (h : Hart) (ss : List Step) → length (hart_after h ss).registers 
 size_after h [] = refl
 size_after h (s ∷ ss) = size_after (after_step h s) ss ∙ written_size (dest_of s.instr) h.registers _
 
-none_write_zero : (ss : List Step) → list_any (writes 0) ss ≡ false
+pub none_write_zero : (ss : List Step) → list_any (writes 0) ss ≡ false
 none_write_zero [] = refl
 none_write_zero (s ∷ ss) = let first = dest_not_zero s.instr in let later = none_write_zero ss in cc
 
@@ -106,6 +106,19 @@ paired_same h g s (Jump target) p = p refl
 paired_same h g s (Fence before after) p = p refl
 paired_same h g s FenceTso p = p refl
 paired_same h g s FenceI p = p refl
+
+-- steps without lr.w and sc.w leave the reservation as it was
+paired_kept : (h : Hart) (s : Step) (i : Instr) → is_lr i ≡ false → is_sc i ≡ false → paired_after h s i ≡ h.paired
+paired_kept h s (Lr ann rd base) l c = absurd (both_ways _ l refl)
+paired_kept h s (Sc ann rd value base) l c = absurd (both_ways _ c refl)
+paired_kept h s i l c = refl
+
+unreserved : (h : Hart) (ss : List Step) → list_any reserves ss ≡ false → (hart_after h ss).paired ≡ h.paired
+unreserved h [] e = refl
+unreserved h (s ∷ ss) e =
+    let parts = or_parts (reserves s) (list_any reserves ss) e in
+    let none = or_parts (is_lr s.instr) (is_sc s.instr) parts.0 in
+    unreserved (after_step h s) ss parts.1 ∙ paired_kept h s s.instr none.0 none.1
 
 -- ---- two states that these steps can't tell apart
 
@@ -190,11 +203,11 @@ hart_after_both h [] us = refl
 hart_after_both h (s ∷ ss) us = hart_after_both (after_step h s) ss us
 
 module _ (n : ℕ) (code : List Instr) where
-  first_steps : (h : Hart) (ss us : List Step) → AreSteps n code h (ss ++ us) → AreSteps n code h ss
+  pub first_steps : (h : Hart) (ss us : List Step) → AreSteps n code h (ss ++ us) → AreSteps n code h ss
   first_steps h [] us r = tt
   first_steps h (s ∷ ss) us r = (r.0, first_steps (after_step h s) ss us r.1)
 
-  last_steps : (h : Hart) (ss us : List Step) → AreSteps n code h (ss ++ us) → AreSteps n code (hart_after h ss) us
+  pub last_steps : (h : Hart) (ss us : List Step) → AreSteps n code h (ss ++ us) → AreSteps n code (hart_after h ss) us
   last_steps h [] us r = r
   last_steps h (s ∷ ss) us r = last_steps (after_step h s) ss us r.1
 
@@ -220,7 +233,7 @@ module _ (before turn after : List Step) where
     meets : Meets after new old
     meets = record {
       at = ap (λ (h : Hart). h.at) (sym (hart_after_both start before turn)) ∙ idle.closed;
-      paired = λ t. absurd (both_ways _ idle.reservation t);
+      paired = λ t. unreserved old turn (false_from_ne_true _ (λ w. both_ways _ (idle.reservation w) t));
       size = size_after old turn;
       never_written = unwritten old turn 0 (none_write_zero turn);
       words = λ r t. unwritten old turn r (read_first_kept r t);

@@ -39,6 +39,11 @@ pub mod OrderRules
 pub mod OrderSources
 pub mod Same
 pub mod Shortened
+pub mod Waiting
+pub mod WaitingLocks
+pub mod WaitingOnce
+pub mod WaitingOperations
+pub mod WaitingTurns
 pub mod WordsBounds
 pub mod WordsExact
 pub mod WordsExtended

@@ -27,22 +27,26 @@ record StepBack (h : Hart) (steps : List Step) : Type 0 where
   pub s : Step
   pub rest : List Step
   pub whole : steps ≡ front ++ (s ∷ rest)
+  pub never : NeverGoesBack h front
   pub back : goes_back (hart_after h front) s ≡ true
 
 true_or_false : (b : Bool) → (b ≡ true) ⊎ (b ≡ false)
 true_or_false true = inl refl
 true_or_false false = inr refl
 
-later : (h : Hart) (s : Step) (ss : List Step) → StepBack (after_step h s) ss → StepBack h (s ∷ ss)
-later h s ss b = record { front = s ∷ b.front; s = b.s; rest = b.rest; whole = ap (λ xs. s ∷ xs) b.whole; back = b.back }
+later : (h : Hart) (s : Step) (ss : List Step) → goes_back h s ≡ false → StepBack (after_step h s) ss
+    → StepBack h (s ∷ ss)
+later h s ss e b =
+    let whole = ap (λ xs. s ∷ xs) b.whole in
+    record { front = s ∷ b.front; s = b.s; rest = b.rest; whole = whole; never = (e, b.never); back = b.back }
 
 find_back : (h : Hart) (steps : List Step) → NeverGoesBack h steps ⊎ StepBack h steps
 find_back h [] = inl tt
 find_back h (s ∷ ss) = elim (true_or_false (goes_back h s)) [
-  | inl e ↦ inr (record { front = []; s = s; rest = ss; whole = refl; back = e })
+  | inl e ↦ inr (record { front = []; s = s; rest = ss; whole = refl; never = tt; back = e })
   | inr e ↦ elim (find_back (after_step h s) ss) [
     | inl none ↦ inl (e, none)
-    | inr b ↦ inr (later h s ss b)
+    | inr b ↦ inr (later h s ss e b)
   ]
 ]
 
@@ -119,7 +123,7 @@ module _ (asked : ℕ → ℕ → Bool) (t : Test) (p : List Entry) (idle : Turn
   fewer_steps : (e : Execution) → IsExecution t p e → BackIn e → Fewer e
   fewer_steps e is b =
       let ended : EndsIdleTurn (asked b.hart) (start b.hart) b.step.front b.step.s b.step.rest =
-      idle e b.hart b.step.front b.step.s b.step.rest is b.low b.step.whole b.step.back in
+      idle e b.hart b.step.front b.step.s b.step.rest is b.low b.step.whole b.step.never b.step.back in
       let turn : List Step = ended.first ∷ ended.more in
       let whole : steps_of e.traces b.hart ≡ ended.before ++ (turn ++ b.step.rest) =
       b.step.whole ∙ regrouped b.step.front ended.before turn b.step.rest b.step.s ended.ends in

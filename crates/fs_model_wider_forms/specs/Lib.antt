@@ -1,3 +1,5 @@
 pub mod Instructions64
 pub mod Turns
+pub mod WaitedOnce
+pub mod Waiting
 pub mod Wide

@@ -1,7 +1,8 @@
 -- Loops, and the turns of a run that may be left out (RISC-V Unprivileged ISA 20191213, chapter "RVWMO Memory Consistency
 -- Model", section "Memory Model Axioms", over runs of `Runs` of fs_model, in which branches may go back). A turn is a part
--- of a run that ends at the position where it began. It is idle where nothing that comes after it can tell that it was
--- made: it stores nothing but what it loaded, and leaves no register and no reservation behind.
+-- of a run that ends at the position where it began. It is idle where no later step of its hart can tell that it was
+-- made: it stores nothing but what it loaded, and leaves no register that is read and no reservation behind. Registers at
+-- the end of the run may differ.
 use Rattle.std.specs.Prelude.{◌≡◌, ℕ, ◌<◌, ◌⊎◌, Bool, true, false, ◌&&◌, ◌||◌, not, nat_le, None, Some, is_some, List, [], ◌∷◌, ◌++◌, All, length, slice_set}
 use Rattle.std.specs.List.{list_any}
 use Rattle.fs_instr.specs.Roles.{is_lr, is_sc, dest_of, sources_of}
@@ -33,6 +34,10 @@ abbrev pub tries_first : List Step → Bool
 tries_first [] = false
 tries_first (s ∷ ss) = is_sc s.instr || not (is_lr s.instr) && tries_first ss
 
+-- an lr.w or an sc.w, after which an sc.w is paired otherwise than before
+abbrev pub reserves : Step → Bool
+reserves s = is_lr s.instr || is_sc s.instr
+
 -- it stores nothing, or, an AMO, the word that it loads
 abbrev pub StoresWhatItLoads : Step → Type 0
 StoresWhatItLoads s = (s.stored ≡ None) ⊎ ((is_some s.loaded ≡ true) × (s.stored ≡ s.loaded))
@@ -40,12 +45,13 @@ StoresWhatItLoads s = (s.stored ≡ None) ⊎ ((is_some s.loaded ≡ true) × (s
 -- ---- turns
 
 -- Of the run before ++ (turn ++ after) of a hart that begins in this state. No register that the turn writes is read
--- after it before it is written again, and no sc.w after it is tried before the next lr.w.
+-- after it before it is written again; and where it has an lr.w or an sc.w, no sc.w after it is tried before the next
+-- lr.w.
 pub record IsIdle (start : Hart) (before turn after : List Step) : Type 0 where
   pub closed : (hart_after start (before ++ turn)).at ≡ (hart_after start before).at
   pub stores : All StoresWhatItLoads turn
   pub registers : (r : ℕ) → list_any (writes r) turn ≡ true → is_read_first r after ≡ false
-  pub reservation : tries_first after ≡ false
+  pub reservation : list_any reserves turn ≡ true → tries_first after ≡ false
 
 -- the run of this hart is that one
 pub record HasIdleTurn (t : Test) (e : Execution) (hart : ℕ) (before turn after : List Step) : Type 0 where
@@ -70,7 +76,7 @@ pub record IsLeftOut (t : Test) (p : List Entry) (e : Execution) (hart : ℕ) (b
   pub traces : left.traces ≡ without_turn e.traces hart before after
   pub alike : EndsAlike t e left hart turn after
 
--- ---- executions in which no loop goes back
+-- ---- executions in which no branch goes back, even where it makes no loop
 
 -- the position after the step isn't past its own
 abbrev pub goes_back : Hart → Step → Bool
@@ -94,11 +100,13 @@ pub record EndsIdleTurn (asked : ℕ → Bool) (start : Hart) (front : List Step
   pub idle : IsIdle start before (first ∷ more) rest
   pub kept : (r : ℕ) → asked r ≡ true → list_any (writes r) (first ∷ more) ≡ true → list_any (writes r) rest ≡ true
 
--- each step that goes back, in an execution with these fences, ends an idle turn; asked for are registers of each hart
+-- In an execution with these fences, the first step of a hart that goes back ends an idle turn. Asked for are registers
+-- of each hart.
 abbrev pub TurnsAreIdle : (asked : ℕ → ℕ → Bool) → Test → List Entry → Type 0
 TurnsAreIdle asked t p =
     (e : Execution) (hart : ℕ) (front : List Step) (s : Step) (rest : List Step) → IsExecution t p e → hart < length t.codes
-    → steps_of e.traces hart ≡ front ++ (s ∷ rest) → goes_back (hart_after (start_with (registers_of t hart)) front) s ≡ true
+    → steps_of e.traces hart ≡ front ++ (s ∷ rest) → NeverGoesBack (start_with (registers_of t hart)) front
+    → goes_back (hart_after (start_with (registers_of t hart)) front) s ≡ true
     → EndsIdleTurn (asked hart) (start_with (registers_of t hart)) front s rest
 
 -- both end with the same words in memory, and in the registers that are asked for

@@ -5,5 +5,5 @@
 mod turns;
 mod wide;
 
-pub use turns::{idle_turns_can_be_left_out, one_turn_is_enough};
+pub use turns::{idle_turns_can_be_left_out, one_turn_is_enough, waiting_is_idle};
 pub use wide::wide_executions_are_extended;
