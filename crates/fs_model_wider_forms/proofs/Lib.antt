@@ -39,6 +39,12 @@ pub mod OrderRules
 pub mod OrderSources
 pub mod Same
 pub mod Shortened
+pub mod StraightCarried
+pub mod StraightDepends
+pub mod StraightLaw
+pub mod StraightOperations
+pub mod StraightRuns
+pub mod StraightSteps
 pub mod Waiting
 pub mod WaitingLocks
 pub mod WaitingOnce

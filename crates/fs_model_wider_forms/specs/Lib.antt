@@ -1,4 +1,5 @@
 pub mod Instructions64
+pub mod OneTurn
 pub mod Turns
 pub mod WaitedOnce
 pub mod Waiting

@@ -5,5 +5,7 @@
 mod turns;
 mod wide;
 
-pub use turns::{idle_turns_can_be_left_out, one_turn_is_enough, waiting_is_idle};
+pub use turns::{
+    idle_turns_can_be_left_out, one_turn_is_enough, plain_means_one_turn, waiting_is_idle,
+};
 pub use wide::wide_executions_are_extended;

@@ -14,6 +14,7 @@ ghost use Rattle.fs_model_wider_forms.specs.Waiting.{OnlyWaits, OnlyWaitsOrSwaps
 ghost use Rattle.fs_model_wider_forms.specs.Waiting.{OnlyLocks};
 ghost use Rattle.fs_model_wider_forms.specs.WaitedOnce.{waiting, waited_once};
 ghost use Rattle.fs_model_wider_forms.specs.Waiting.{waits_for_a_flag, waits_for_a_lock};
+ghost use Rattle.fs_model_wider_forms.specs.OneTurn.{IsMark, IsStraightened, ReachesMarks, EndsAsIn};
 ghost use Rattle.fs_model_wider_forms.specs.Turns.{HasIdleTurn, IsLeftOut, IsInOneTurn, TurnsAreIdle, EndTheSame, AsksFor};
 
 /// A law: an idle turn can be left out. With any fences, an execution in which a hart's run has one has another, of the
@@ -57,4 +58,16 @@ pub fn waiting_is_idle()
         → TurnsAreIdle asked t p }
     ensures is_execution { IsExecution waiting [] waited_once }
     ensures goes_back { IsInOneTurn waiting waited_once → ⊥ }
+{}
+
+/// A law: what `--unroll 1` makes of a test means the test's executions in which no step goes back. With any fences,
+/// each of these has an execution of the straightened test in which each hart that had a branch back comes to its mark,
+/// and each such execution has one of these. Both end with the same words in memory, and in all registers but the mark.
+pub fn plain_means_one_turn()
+    ensures forth { (mark : ℕ) (t u : Test) → IsMark mark t → IsStraightened mark t u → (p : List Entry) (f : Execution)
+        → IsExecution t p f → IsInOneTurn t f
+        → (e : Execution) × IsExecution u p e × ReachesMarks mark t u e × EndsAsIn mark t u f e }
+    ensures back { (mark : ℕ) (t u : Test) → IsMark mark t → IsStraightened mark t u → (p : List Entry) (e : Execution)
+        → IsExecution u p e → ReachesMarks mark t u e
+        → (f : Execution) × IsExecution t p f × IsInOneTurn t f × EndsAsIn mark t u f e }
 {}
