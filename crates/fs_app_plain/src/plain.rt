@@ -1,8 +1,11 @@
 //! The text of a test file in the reader's form.
 
-ghost use Rattle.std.specs.Prelude.{All, OnOk};
-ghost use Rattle.fs_model.specs.Test.{IsBounded, IsStart};
+ghost use Rattle.std.specs.Prelude.{◌≡◌, ◌≢◌, true, false, All, IfOk, IfSome, OnOk};
+ghost use Rattle.fs_kinds.specs.declared.fault.Fault.TheVariants.{Memory};
+ghost use Rattle.fs_model.specs.Test.{IsBounded, IsStart, IsTest};
+ghost use Rattle.fs_values.specs.ThinAir.{CanBeListed};
 ghost use Rattle.fs_model_wider_forms.specs.Wide.{IsExactTest};
+ghost use Rattle.fs_app_plain.specs.Exactly.{IsExactText};
 
 use crate::guard::{Asked, asked_of, is_balanced, push_line};
 use crate::lexemes::{Lexeme, lexemes, line_at, part, word_at};
@@ -48,7 +51,10 @@ pub struct Plain {
 
 impl Plain {
     /// The same, made of this file.
-    pub fn of_file(self, file: Vec<u8>) -> Plain {
+    pub fn of_file(self, file: Vec<u8>) -> Plain
+        ensures text { result.text ≡ self.text }
+        ensures width { result.is_wide ≡ self.is_wide }
+    {
         let mut plain = self;
         plain.file = Some(file);
         plain
@@ -350,6 +356,7 @@ fn check_words(alloc: Global, test: &Test) -> Result<(), Unplain>
     requires test { IsBounded test.now }
     requires starts { All IsStart test.now.starts }
     ensures exact { OnOk result (IsExactTest test.now) }
+    ensures listable { OnOk result (CanBeListed test.now) }
 {
     match inexact(alloc, test) {
         Ok(Some(place)) => Err(Unplain::Word {
@@ -362,6 +369,35 @@ fn check_words(alloc: Global, test: &Test) -> Result<(), Unplain>
     }
 }
 
+/// Is it want of memory?
+fn is_memory(fault: Fault) -> bool
+    ensures { result ≡ false → fault ≢ Memory }
+{
+    matches!(fault, Fault::Memory)
+}
+
+/// The test that the text reads as, once it is known to be the same with accesses of 64 bits, where it stands for one
+/// that has those. Nothing where the text is no test.
+#[tactic(auto, using(crate::proofs::NoTest::no_test))]
+fn checked_test(alloc: Global, text: &[u8], is_wide: bool) -> Result<Option<Test>, Unplain>
+    ensures test { IfOk result (λ found. IfSome found IsTest) }
+    ensures exact { OnOk result (is_wide ≡ true → IsExactText text.now) }
+{
+    let test = match read_test(alloc, text) {
+        Ok(test) => test,
+        Err(fault) => {
+            if is_memory(fault) {
+                return Err(Unplain::NoMemory);
+            }
+            return Ok(None);
+        }
+    };
+    if is_wide {
+        check_words(alloc, &test)?;
+    }
+    Ok(Some(test))
+}
+
 /// The loops of the text of which one turn may not be as good as several, once it is known to be a test that is the
 /// same with the accesses that the file has. Nothing where it is no test.
 fn checked(
@@ -369,22 +405,38 @@ fn checked(
     made: &Made,
     at_end: &[Registers],
     is_wide: bool,
-) -> Result<Vec<OneTurn>, Unplain> {
+) -> Result<Vec<OneTurn>, Unplain>
+    ensures exact { OnOk result (is_wide ≡ true → IsExactText made.now.text.items) }
+{
     if !is_wide && made.turns.is_empty() {
         return Ok(Vec::new(alloc));
     }
-    let test = match read_test(alloc, &made.text) {
-        Ok(test) => test,
-        Err(Fault::Memory) => return Err(Unplain::NoMemory),
-        Err(_) => return Ok(Vec::new(alloc)),
+    let Some(test) = checked_test(alloc, &made.text, is_wide)? else {
+        return Ok(Vec::new(alloc));
     };
-    if is_wide {
-        check_words(alloc, &test)?;
-    }
     if made.turns.is_empty() {
         return Ok(Vec::new(alloc));
     }
     Ok(doubtful(alloc, &test, &made.turns, at_end)?)
+}
+
+/// What was made, once it is known to be good.
+fn finished(
+    alloc: Global,
+    made: Made,
+    at_end: &[Registers],
+    is_wide: bool,
+) -> Result<Plain, Unplain>
+    ensures exact { IfOk result (λ plain. plain.is_wide ≡ true → IsExactText plain.text.items) }
+{
+    let turns = checked(alloc, &made, at_end, is_wide)?;
+    Ok(Plain {
+        text: made.text,
+        file: None,
+        turns,
+        is_guarded: made.is_guarded,
+        is_wide,
+    })
 }
 
 /// The text of a test file in the reader's form; nothing where it is in that, or in no form that is known.
@@ -398,7 +450,10 @@ fn checked(
 ///
 /// Positions of instructions stay, and lines but for those of a `filter`. Linear in the bytes; of accesses of 64 bits,
 /// and of loops, also the cost of listing the test's runs.
-pub fn plain_form(alloc: Global, bytes: &[u8], forms: Forms) -> Result<Option<Plain>, Unplain> {
+pub fn plain_form(alloc: Global, bytes: &[u8], forms: Forms) -> Result<Option<Plain>, Unplain>
+    // What stands for accesses of 64 bits is a test that is the same with those, where it is a test.
+    ensures exact { IfOk result (λ made. IfSome made (λ plain. plain.is_wide ≡ true → IsExactText plain.text.items)) }
+{
     let Some(body) = skip_title(bytes) else {
         return Ok(None);
     };
@@ -424,14 +479,7 @@ pub fn plain_form(alloc: Global, bytes: &[u8], forms: Forms) -> Result<Option<Pl
         return Ok(None);
     };
     let at_end = read_at_end(alloc, bytes, &lexemes, sheet.tail, forms.all)?;
-    let turns = checked(alloc, &made, &at_end, is_wide)?;
-    Ok(Some(Plain {
-        text: made.text,
-        file: None,
-        turns,
-        is_guarded: made.is_guarded,
-        is_wide,
-    }))
+    Ok(Some(finished(alloc, made, &at_end, is_wide)?))
 }
 
 /// Do both have the same words and signs? Linear in the texts.

@@ -1,11 +1,12 @@
 //! Whether registers of 64 bits hold what those of 32 do, their words extended by their signs.
 
-ghost use Rattle.std.specs.Prelude.{◌≡◌, ◌+ℤ◌, ◌-ℤ◌, ◌<◌, true, None, All, FitsSigned, IfOk, IfSome, length};
+ghost use Rattle.std.specs.Prelude.{◌≡◌, ◌+ℤ◌, ◌-ℤ◌, ◌<◌, true, None, All, FitsSigned, IfOk, IfSome, OnOk, length};
 ghost use Rattle.std.specs.Int.{w32, cast_signed};
 ghost use Rattle.fs_model.specs.Execute.{read};
 ghost use Rattle.fs_model.specs.Execution.{registers_of};
 ghost use Rattle.fs_model.specs.Test.{IsBounded, IsStart};
 ghost use Rattle.fs_model.specs.Trace.{start_with, after_step};
+ghost use Rattle.fs_values.specs.ThinAir.{CanBeListed};
 ghost use Rattle.fs_model_wider_forms.specs.Wide.{IsExact, AreExact, IsExactTest};
 ghost use Rattle.fs_instr.specs.declared.names.ShiftOp.TheVariants.{Slli, Srli};
 ghost use Rattle.fs_app_plain.specs.Exact.{IsExactComputed, IsExactImmediate, IsExactShifted, IsExactCombined};
@@ -196,6 +197,7 @@ pub(crate) fn inexact(alloc: Global, test: &Test) -> Result<Option<Place>, Fault
     requires starts { All IsStart test.now.starts }
     ensures within { IfOk result (λ found. IfSome found (λ place. place.hart < length test.now.codes)) }
     ensures exact { IfOk result (λ found. found ≡ None → IsExactTest test.now) }
+    ensures listable { OnOk result (CanBeListed test.now) }
 {
     let runs = all_runs(alloc, test)?;
     for (hart, of_hart) in runs.iter().enumerate() {
