@@ -7,6 +7,7 @@ use Rattle.std.specs.contracts.vec.Vec as Vec
 use Rattle.std.specs.contracts.alloc.Global as Heap
 use Rattle.std.specs.contracts.impls.GlobalAllocator.TheImpl.{ghosts}
 use Rattle.fs_judge.specs.contracts.known.Known as Known
+use Rattle.fs_kinds.proofs.fault.Fault.TheSendSync as fault
 use Rattle.fs_kinds.proofs.list.List.TheSendSync as list
 use Rattle.fs_kinds.proofs.placement.Placement.TheSendSync as placement
 use Rattle.fs_kinds.proofs.reason.OperationName.TheSendSync as named
@@ -74,4 +75,4 @@ witness_send : IsSend Witness.the_row
 witness_send = search (list.the_send, named.the_send, crosses, sendable) depth 40 fits 100000
 
 pub seat_send : IsSend Seat.the_row
-seat_send = search (test_send, test_sync, judge_send, placement.the_send, witness_send, crosses, sendable) depth 40 fits 100000
+seat_send = search (test_send, test_sync, judge_send, placement.the_send, witness_send, fault.the_send, crosses, sendable) depth 40 fits 100000
