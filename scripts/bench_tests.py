@@ -130,10 +130,7 @@ def votes(pairs, least, spare):
 def long_searches():
     """The texts of tests whose search takes long with one worker, by their names."""
     grown = texts_of('grown')
-    names = 'SB-7-4 SB-8-0 LB-7-4 MP-7-4 2+2W-7-4 IRIW-4 stores-7 stores-8 loads-12 loads-14 rounds-3'.split()
-    spares = {(3, 2): (0, 3, 6), (4, 2): (0, 2, 6, 8), (4, 3): (0, 2, 4, 8, 12)}
-    numbers = [(*each, spare) for each in spares for spare in spares[each]]
-    return {name: grown[name] for name in names} | {'votes-%d-%d-%d' % each: votes(*each) for each in numbers}
+    return {name: grown.get(name) or votes(*map(int, name.split('-')[1:])) for name in rows_of_table('searches')}
 
 
 PARTS = {'⏎': '\n', 'HEAD': 'RISCV T\n', 'BODY': '{ 0:x6=x; }\nP0 ;\nlw x5,0(x6) ;\n', 'TAIL': 'exists (0:x5=0)\n'}

@@ -54,21 +54,17 @@ def number_of_json(text):
     return int(text) if re.fullmatch('[0-9]{1,20}', text) and int(text) < 2 ** 64 else OTHER_NUMBER
 
 
-HALF = r'\\u[dD][%s][0-9a-fA-F]{2}'
-ESCAPE = re.compile('%s%s|(?P<half>%s)|%s' % (HALF % '89abAB', HALF % 'c-fC-F', HALF % '89a-fA-F', r'\\.'), re.DOTALL)
-"""An escape of a JSON text: both halves of a surrogate pair, half of one by itself, or another."""
-
-
 def json_of(data):
     """The value that these bytes write, RFC 8259 in UTF-8; of a doubled key the last one counts. None, as of `null`,
     where they are no such text, as half a surrogate pair isn't, which Python takes; or one that is nested too deep."""
     try:
         text = data.decode('utf-8')
-        is_text = not any(escape['half'] for escape in ESCAPE.finditer(text))
+        strings = re.findall(r'"(?:[^"\\]|\\.)*"', text, re.DOTALL)
+        ''.join(json.loads('[%s]' % ','.join(strings))).encode('utf-8')         # which half a pair can't be
         brackets = re.sub(r'"(?:[^"\\]|\\.)*"|[^][{}"]+|"', '', text, flags=re.DOTALL)
         depths = itertools.accumulate(1 if bracket in '[{' else -1 for bracket in brackets)
         how = dict.fromkeys(['parse_int', 'parse_float', 'parse_constant'], number_of_json)
-        return json.loads(text, **how) if is_text and max(depths, default=0) <= 127 else None
+        return json.loads(text, **how) if max(depths, default=0) <= 127 else None
     except (ValueError, RecursionError):
         return None
 
@@ -78,14 +74,16 @@ def is_whole(value, below=2 ** 64):
 
 
 def has_form(value, form):
-    """Is this an object with these keys, a list of such entries, a list with an entry for each of these, a value of
-    this type, this very value, or what a function says?"""
+    """Is this an object with these keys, a list of such entries, a list with an entry for each of these, a text of this
+    pattern, a value of this type, this very value, or what a function says?"""
     if type(form) is dict:
         return type(value) is dict and value.keys() == form.keys() and all(has_form(value[it], form[it]) for it in form)
     if type(form) is list:
         return type(value) is list and all(has_form(entry, form[0]) for entry in value)
     if type(form) is tuple:
         return type(value) is list and len(value) == len(form) and all(map(has_form, value, form))
+    if type(form) is re.Pattern:
+        return type(value) is str and form.fullmatch(value) is not None
     if type(form) is type:
         return type(value) is form
     return form(value) if callable(form) else type(value) is type(form) and value == form
@@ -158,48 +156,64 @@ for _bits in ['', '.aq', '.rl', '.aqrl', '.aq.rl']:
 
 
 class Instruction:
-    """An instruction with its roles: registers to read for the address, the data and plainly, and the one to write."""
+    """An instruction of this name, with its roles: registers to read for the address, the data and plainly, and the one
+    to write. Are these words behind its name right?"""
 
-    def __init__(self, form, function):
-        self.form = form            # compute, load, store, lr, sc, amo, branch, jump or fence
-        self.function = function    # what is computed, or when the branch jumps
+    def __init__(self, name, words):
+        # the form is compute, load, store, lr, sc, amo, branch, jump or fence; the function what is computed, or when
+        # the branch jumps
+        operands, self.form, self.function = FORMS[name]
         self.rd, self.plain, self.address, self.data = 0, (), None, None
         self.number = 0             # immediate or offset
         self.label = None           # where a branch goes: a name, and once all labels are known, a position
-        self.aq = self.rl = False
+        self.acquires = self.releases = False
         self.letters, self.pairs = (), frozenset()      # of a written fence, and what it orders
+        if name == 'fence' and not words:
+            words = ['iorw', ',', 'iorw']
+        self.is_right = all(self.take(operand, words) for operand in operands) and not words
+        if self.form in ('lr', 'sc', 'amo'):
+            aq, rl = 'aq' in name, 'rl' in name         # (no name without annotations has these letters)
+            self.acquires, self.releases = aq and (self.form != 'sc' or rl), rl and (self.form != 'lr' or aq)
+        if self.is_right and self.form == 'fence' and name != 'fence.i':
+            self.pairs = product_of(*self.letters) if self.letters else TSO
 
     def is_memory(self):
         return self.address is not None
 
-
-class Test:
-    """A test as read: code, words at the beginning, and the condition whose truth is the outcome."""
-
-    def __init__(self):
-        self.code = []              # of each hart its instructions
-        self.registers = []         # of each hart the words of its registers at the beginning
-        self.addresses = {}         # of each location, by name and in order
-        self.words = {}             # the word at each address at the beginning
-        self.outcome = ('constant', True)
-        self.wanted = (self.outcome, True)      # the condition, and the truth value that it has where the outcome is
-        self.labels = []            # of each hart place, name and line of each label that names a site
-
-    def memory_instructions(self):
-        """Hart and instruction of each memory instruction."""
-        return [(hart, at) for hart, code in enumerate(self.code) for at, it in enumerate(code) if it.is_memory()]
-
-    def slots(self):
-        """Hart and instruction of each slot: before a memory instruction whose hart has an earlier one (FORMAT 3)."""
-        return [after for before, after in itertools.pairwise(self.memory_instructions()) if before[0] == after[0]]
+    def take(self, operand, words):
+        """Takes an operand of FORMS off the words, into its place here. Is it one?"""
+        if operand in 'mo' and words[:1] == ['(']:
+            return True
+        is_negative = operand in RANGES and words[:1] == ['-']
+        word = ''.join(words[is_negative:is_negative + 1])
+        del words[:is_negative + 1]
+        if operand in RANGES:
+            least, greatest = RANGES[operand]
+            number = number_of(word) if is_number(word) else math.inf       # which is in no range
+            number = -number if is_negative else number
+            self.number = (number * 4096 if operand == 'u' else number) % WORDS
+            return least <= number <= greatest
+        if operand in 'dsvaz':
+            register = REGISTERS.get(word)
+            if operand == 's':
+                self.plain += (register,)
+            elif operand != 'z':
+                setattr(self, {'d': 'rd', 'a': 'address', 'v': 'data'}[operand], register)
+            return register is not None and (operand != 'z' or register == 0)
+        if operand == 'l':
+            is_numbered = re.fullmatch('[0-9]+[fb]', word) and number_of(word[:-1]) < WORDS
+            self.label = word.removesuffix('f') if is_numbered else word
+            return is_numbered or is_name(word)
+        if operand == 'f':
+            self.letters += (word,)
+            return re.fullmatch('(?=.)i?o?r?w?', word) is not None
+        return word == operand
 
 
 TOKEN = re.compile(r'(\(\*|\*\))|([A-Za-z0-9_.]+|/\\|\\/|[^ \t\r])')
 """A sign of a comment; or a token, or a line end."""
 SIGNS = {*'{};|,:=()[]~-*&<>!', '/\\', '\\/'}
 FAULTS = {3: 'Syntax', 4: 'UnknownInstr', 5: 'BadAnnotation', 6: 'BadLabel', 7: 'BadInit'}
-
-
 # Is this token a number, any word, a name, the mnemonic of an access?
 is_number = re.compile('0x[0-9A-Fa-f]+|[0-9]+').fullmatch
 is_word = re.compile('[A-Za-z0-9_.]').match
@@ -224,52 +238,6 @@ def narrow(columns):
             words[at] = access[1] + 'w' + access[3] if access else words[at]
 
 
-def take_operand(operand, words, made):
-    """Takes an operand of FORMS off the words, into its place in the instruction. Is it one?"""
-    if operand in 'mo' and words[:1] == ['(']:
-        return True
-    is_negative = operand in RANGES and words[:1] == ['-']
-    word = ''.join(words[is_negative:is_negative + 1])
-    del words[:is_negative + 1]
-    if operand in RANGES:
-        least, greatest = RANGES[operand]
-        number = number_of(word) if is_number(word) else math.inf       # which is in no range
-        number = -number if is_negative else number
-        made.number = (number * 4096 if operand == 'u' else number) % WORDS
-        return least <= number <= greatest
-    if operand in 'dsvaz':
-        register = REGISTERS.get(word)
-        if operand == 's':
-            made.plain += (register,)
-        elif operand != 'z':
-            setattr(made, {'d': 'rd', 'a': 'address', 'v': 'data'}[operand], register)
-        return register is not None and (operand != 'z' or register == 0)
-    if operand == 'l':
-        is_numbered = re.fullmatch('[0-9]+[fb]', word) and number_of(word[:-1]) < WORDS
-        made.label = word.removesuffix('f') if is_numbered else word
-        return is_numbered or is_name(word)
-    if operand == 'f':
-        made.letters += (word,)
-        return re.fullmatch('(?=.)i?o?r?w?', word) is not None
-    return word == operand
-
-
-def instruction_of(name, words):
-    """The instruction of this name with these words behind it, or None where they are none of its operands."""
-    operands, form, function = FORMS[name]
-    made = Instruction(form, function)
-    if name == 'fence' and not words:
-        words = ['iorw', ',', 'iorw']
-    if not all(take_operand(operand, words, made) for operand in operands) or words:
-        return None
-    if form in ('lr', 'sc', 'amo'):
-        bits = name.partition('.w')[2]
-        made.aq, made.rl = 'aq' in bits, 'rl' in bits
-    if form == 'fence':
-        made.pairs = product_of(*made.letters) if made.letters else TSO if name == 'fence.tso' else frozenset()
-    return made
-
-
 def joined(stack, right, signs):
     """The condition at the right of these signs, once those are off the stack. A condition has its tree and its depths,
     as grouped and as written; a denial and an open parenthesis have nothing at their left."""
@@ -284,13 +252,18 @@ def denied(tree, grouped, written):
     return ('not', tree), grouped + 1, written + 1
 
 
-class TestReader:
-    """Reads a test by its tokens. Where the form breaks, that is its fault; else the least of those noted is."""
+class Test:
+    """A test, which is read by its tokens. Where the form breaks, that is its fault; else the least of those noted is.
+    It has code, words at the beginning, and the condition whose truth is the outcome."""
 
     def __init__(self, text, line, last):
-        self.words, self.lines = [], []         # the tokens, and the line of each
-        self.at, self.last = 0, last            # a place among them, and the line where the text ends
-        self.test, self.faults, self.has_bad_atom = Test(), [], False       # faults have a number and a line
+        self.tokens, self.lines, self.at = [], [], 0            # tokens, the line of each, and a place among them
+        self.faults, self.has_bad_atom = [], False              # faults have a number and a line
+        self.code = []              # of each hart its instructions
+        self.registers = []         # of each hart the words of its registers at the beginning
+        self.addresses = {}         # of each location, by name and in order
+        self.words = {}             # the word at each address at the beginning
+        self.labels = []            # hart and place, name and line of each label that names a site
         depth = 0                               # comments nest
         for sign, token in (found.groups() for found in TOKEN.finditer(text)):
             if token == '\n':
@@ -299,24 +272,23 @@ class TestReader:
                 depth += 1 if sign == '(*' else -1
             elif not depth:
                 words = [token] if token else ['*', ')']        # which is no sign outside of comments
-                self.words += words
+                self.tokens += words
                 self.lines += [line] * len(words)
-        self.is_closed = depth == 0
+        # the end, with what `peek` may see behind it; and before it the sign of a comment that isn't closed
+        self.tokens += ['(*'] * (depth > 0) + [''] * 3
+        self.lines += [last, last]
+        self.read()
 
     def peek(self, ahead=0):
         """The token here, or the empty text at the end."""
-        return self.words[self.at + ahead] if self.at + ahead < len(self.words) else ''
-
-    def line(self):
-        return self.lines[self.at] if self.at < len(self.lines) else self.last
+        return self.tokens[self.at + ahead]
 
     def next(self, is_wanted):
         """Takes the token here, where it is wanted; else the form breaks here."""
-        token = self.peek()
-        if not token or not is_wanted(token):
-            raise Fault('fault F3 Syntax line %d' % self.line())
+        if not is_wanted(self.peek()):
+            raise Fault('fault F3 Syntax line %d' % self.lines[self.at])
         self.at += 1
-        return token
+        return self.tokens[self.at - 1]
 
     def expect(self, *wanted):
         return self.next(lambda token: token in wanted)
@@ -334,11 +306,9 @@ class TestReader:
 
     def location(self):
         """The address of the location of this name, which declares it where it is new."""
-        name, test = self.next(is_name), self.test
-        if name not in test.addresses:
-            test.addresses[name] = 4096 + 16 * len(test.addresses)
-            test.words[test.addresses[name]] = 0
-        return test.addresses[name]
+        address = self.addresses.setdefault(self.next(is_name), 4096 + 16 * len(self.addresses))
+        self.words.setdefault(address, 0)
+        return address
 
     def target(self):
         """A location's address, or hart and register, which is None where there is none of this name."""
@@ -361,32 +331,29 @@ class TestReader:
 
     def entries(self):
         """The entries of the init block: line, target and value of each. A type may stand before it and is skipped."""
-        found = []
         self.expect('{')
         while not self.accept('}'):
             while is_name(self.peek()) and (is_word(self.peek(1)) or self.peek(1) in ('[', '*')):
                 self.next(is_name)
                 self.accept('*')
-            line, target, word = self.line(), self.target(), 0
+            line, target, word = self.lines[self.at], self.target(), 0
             if self.accept('='):
                 word = self.location() if self.accept('&') else self.value()
-            found.append((line, target, word))
+            yield line, target, word
             if self.peek() != '}':
                 self.expect(';')
-        return found
 
     def columns(self):
         """Of each hart its cells: tokens and their lines."""
-        self.expect('P0')
-        columns = [[]]
-        while self.expect('|', ';') == '|':
+        columns = []
+        while not columns or self.expect('|', ';') == '|':
             self.expect('P%d' % len(columns))
             columns.append([])
         while self.peek() not in ('locations', 'exists', 'forall', '~'):
             for cells in columns:
                 start = self.at
                 self.skip_to('|', ';')
-                cells.append((self.words[start:self.at], self.lines[start:self.at]))
+                cells.append((self.tokens[start:self.at], self.lines[start:self.at]))
                 self.expect('|' if cells is not columns[-1] else ';')
         return columns
 
@@ -403,7 +370,7 @@ class TestReader:
         if sign != '=' or self.peek() == '=':
             self.expect('>' if sign == '<' else '=')
         value, is_register = self.value(), type(target) is tuple
-        is_there = not is_register or target[0] < len(self.test.registers) and target[1] is not None
+        is_there = not is_register or target[0] < len(self.registers) and target[1] is not None
         self.has_bad_atom |= value is None or not is_there
         found = 'register' if is_register else 'word', target, value
         return (found, 0, 0) if sign == '=' else denied(found, 0, 0)
@@ -435,10 +402,9 @@ class TestReader:
             stack.append((sign, *found))
 
     def read(self):
-        test, entries = self.test, self.entries()
-        columns = self.columns()
+        entries, columns = list(self.entries()), self.columns()
         narrow(columns)
-        test.registers = [[0] * 32 for _ in columns]
+        self.registers = [[0] * 32 for _ in columns]
         if self.accept('locations'):
             self.expect('[')
             self.skip_to(']')
@@ -447,31 +413,31 @@ class TestReader:
         if quantifier == '~':
             self.expect('exists')
         condition, depth = self.condition()
-        if not self.is_closed:
-            raise Fault('fault F3 Syntax line %d' % self.last)
-        test.code = [self.code(cells) for cells in columns]
-        test.wanted = (condition, quantifier != 'forall')
-        test.outcome = ('not', condition) if quantifier == 'forall' else condition
+        for cells in columns:
+            self.code.append(self.code_of(cells))
+        # the condition, and the truth value that it has where the outcome is; and the condition of that
+        self.wanted = (condition, quantifier != 'forall')
+        self.outcome = ('not', condition) if quantifier == 'forall' else condition
         self.end(entries, depth)
-        return test
 
-    def code(self, cells):
+    def code_of(self, cells):
         """The instructions of a hart, whose cells are tokens and their lines. Each branch must go to a later place."""
-        code, places, labels, sites, ends = [], [], {}, [], {words[-1] for words, _ in cells if words}
+        code, places, labels, ends = [], [], {}, {words[-1] for words, _ in cells if words}     # what branches name
         for words, lines in cells:
             at = 0
             while words[at + 1:at + 2] == [':'] and (is_name(words[at]) or is_number(words[at])):
                 if words[at] in labels:
                     self.faults.append((6, lines[at]))
+                elif is_name(words[at]) and words[at] not in ends:
+                    self.labels.append(((len(self.code), len(code)), words[at], lines[at]))
                 labels.setdefault(words[at], len(code))
-                sites += [(len(code), words[at], lines[at])] * bool(is_name(words[at]) and words[at] not in ends)
                 at += 2
             if at == len(words):
                 continue
-            made = instruction_of(words[at], words[at + 1:]) if words[at] in FORMS else None
-            if is_word(words[at]) and words[at] not in FORMS:
+            made = Instruction(words[at], words[at + 1:]) if words[at] in FORMS else None
+            if is_word(words[at]) and made is None:
                 self.faults.append((4, lines[at]))
-            elif made is None:
+            elif made is None or not made.is_right:
                 self.faults.append((3, lines[0]))
             elif words[at] in ('lr.w.rl', 'sc.w.aq'):
                 self.faults.append((5, lines[at]))
@@ -482,34 +448,41 @@ class TestReader:
             if made.label is not None:
                 made.label = labels.get(made.label, -1)
                 self.faults += [(6, line)] * (made.label <= at)
-        self.test.labels.append(sites)
         return code
 
     def end(self, entries, depth):
         """Gives registers and locations their words at the beginning, and raises the test's fault, if it has one."""
-        seen, harts = set(), len(self.test.registers)
+        seen, harts = set(), len(self.registers)
         for line, target, word in entries:
             is_register = type(target) is tuple
             is_there = not is_register or target[0] < harts and target[1]       # but for x0
             if word is None or not is_there or target in seen:
                 self.faults.append((7, line))
             elif is_register:
-                self.test.registers[target[0]][target[1]] = word
+                self.registers[target[0]][target[1]] = word
             else:
-                self.test.words[target] = word
+                self.words[target] = word
             seen.add(target)
         if self.faults:
             number, line = min(self.faults)
             raise Fault('fault F%d %s line %d' % (number, FAULTS[number], line))
         if self.has_bad_atom:
             raise Fault('fault F8 BadCondition')
-        code = self.test.code
+        code = self.code
         counts = [('harts', len(code), 8), ('instructions', max(map(len, code)), 32),
                   ('accesses', sum(made.is_memory() for each in code for made in each), 48),
-                  ('locations', len(self.test.addresses), 8), ('depth', depth, 64)]
+                  ('locations', len(self.addresses), 8), ('depth', depth, 64)]
         for what, count, most in counts:
             if count > most:
                 raise Fault('fault F9 TooBig %s' % what)
+
+    def memory_instructions(self):
+        """Hart and instruction of each memory instruction."""
+        return [(hart, at) for hart, code in enumerate(self.code) for at, it in enumerate(code) if it.is_memory()]
+
+    def slots(self):
+        """Hart and instruction of each slot: before a memory instruction whose hart has an earlier one (FORMAT 3)."""
+        return [after for before, after in itertools.pairwise(self.memory_instructions()) if before[0] == after[0]]
 
 
 def test_of(data):
@@ -533,7 +506,7 @@ def test_of(data):
     block = re.compile(r'^[ \t\r]*\{', re.MULTILINE).search(text, title.end())
     start = block.start() if block else len(text)
     last = text.count('\n') + (not text.endswith('\n'))
-    return TestReader(text[start:], text.count('\n', 0, start) + 1, last).read()
+    return Test(text[start:], text.count('\n', 0, start) + 1, last)
 
 
 def truths(condition, of_atom):
@@ -581,7 +554,7 @@ def prices_of(data, of_sites=False):
     value = json_of(data)
     weight = value.pop('weights', {}) if type(value) is dict else None
     if not (type(weight) is dict and all(is_whole(it, 1001) for it in weight.values())
-            and (of_sites or all(map(is_byte_name, weight)))
+            and (of_sites or all(map(BYTE_NAME.fullmatch, weight)))
             and all(kind in KINDS and is_whole(price, 1000001) and price > 0 for kind, price in value.items())):
         raise Fault('fault F10 BadPrices')
     if 'rw,rw' not in value:
@@ -619,13 +592,6 @@ class Step:
         self.loads, self.stores = loaded is not None, stored is not None
         self.classes = 'R' * self.loads + 'W' * self.stores
 
-    def is_acquire(self):
-        """An AMO or lr.w with aq, or any of the three with both bits."""
-        return self.instruction.aq and (self.instruction.form != 'sc' or self.instruction.rl)
-
-    def is_release(self):
-        return self.instruction.rl and (self.instruction.form != 'lr' or self.instruction.aq)
-
     def depends(self, step, *registers):
         """Does this step depend on that one through one of these sources?"""
         return any(step in self.origins.get(register, ()) for register in registers)
@@ -645,6 +611,10 @@ class Run:
         if self.used < len(choices):
             raise NoRun()
         self.operations = [step for step in self.steps if step.address is not None]
+        # these by hart and instruction, and so the address and the word that each loads, and that it stores
+        self.named = {(hart, it.position): it for it in self.operations}
+        self.loads = {name: (it.address, it.loaded) for name, it in self.named.items() if it.loads}
+        self.stores = {name: (it.address, it.stored) for name, it in self.named.items() if it.stores}
 
     def execute(self, position):
         """Makes one step, and gives the position of the next one."""
@@ -674,10 +644,8 @@ class Run:
         address = (self.registers[instruction.address] + instruction.number) % WORDS
         data = self.registers[instruction.data] if instruction.data is not None else None
         if instruction.form == 'sc':
-            results = (True, False) if self.reserving and self.reserving.address == address else (False,)
-            succeeds = self.choose(None, results)
-            if type(succeeds) is not bool or succeeds not in results:
-                raise NoRun()
+            may_succeed = self.reserving and self.reserving.address == address
+            succeeds = self.choose(bool, None, (True, False) if may_succeed else (False,))
             if succeeds:
                 step.accesses(address, stored=data)
                 self.pairs.append((self.reserving, step))
@@ -688,36 +656,48 @@ class Run:
         if instruction.form == 'store':
             step.accesses(address, stored=data)
             return None
-        loaded = self.choose(address, ())
-        if type(loaded) is not int:
-            raise NoRun()
+        loaded = self.choose(int, address)
         stored = instruction.function(loaded, data) % WORDS if instruction.form == 'amo' else None
         step.accesses(address, loaded, stored)
         if instruction.form == 'lr':
             self.reserving = step
         return loaded
 
-    def choose(self, address, results):
+    def choose(self, kind, address, results=()):
+        """The next choice: a word that is loaded at the address, or one of these results."""
         if self.used == len(self.choices):
             raise ChoicesEnd(address, results)
+        choice = self.choices[self.used]
+        if type(choice) is not kind or results and choice not in results:
+            raise NoRun()
         self.used += 1
-        return self.choices[self.used - 1]
+        return choice
+
+    def choice(self, name):
+        """What it chooses at this instruction of its hart, as a number: first those that don't execute it; then, as in
+        choice order, words rising, and success before failure. An instruction that chooses nothing has one number."""
+        step = next((step for step in self.steps if step.position == name[1]), None)
+        if step is None:
+            return 0
+        if step.instruction.form == 'sc':
+            return 1 if step.stores else 2
+        return step.loaded + 1 if step.loads else 1
 
 
 def ends_over(test, hart, words, choices=()):
-    """The runs of a hart over these sets of words, or how they go astray: words rising, success before failure."""
+    """The runs of a hart over these words, or how they go astray: words rising, success before failure."""
     try:
         yield Run(test, hart, choices)
     except GoesAstray as astray:
         yield astray
     except ChoicesEnd as end:
         address, results = end.args
-        for choice in results or sorted(words[address]):
+        for choice in results or sorted(word for place, word in words if place == address):
             yield from ends_over(test, hart, words, choices + (choice,))
 
 
 def all_runs_over(test, words):
-    """Of each hart all its runs over these sets. Raises the fault of the first hart that has one."""
+    """Of each hart all its runs over these words, which have addresses. Raises the fault of the first hart with one."""
     found = []
     for hart in range(len(test.code)):
         found.append(list(itertools.islice(ends_over(test, hart, words), MOST_RUNS + 1)))
@@ -731,17 +711,14 @@ def all_runs_over(test, words):
 
 def all_runs(test):
     """Of each hart all its runs over the words that each location may come to hold, round by round (MODEL 11)."""
-    sets = {address: {word} for address, word in test.words.items()}
-    for _ in range(sum(instruction.form in ('store', 'sc', 'amo') for code in test.code for instruction in code)):
-        wider = {address: set(words) for address, words in sets.items()}
-        for run in itertools.chain.from_iterable(all_runs_over(test, sets)):
-            for step in run.steps:
-                if step.stored is not None:
-                    wider[step.address].add(step.stored)
-        if wider == sets:
+    words = set(test.words.items())
+    for _ in range(1 + sum(instruction.form in ('store', 'sc', 'amo') for code in test.code for instruction in code)):
+        runs = all_runs_over(test, words)
+        stored = {store for run in itertools.chain(*runs) for store in run.stores.values()}
+        if stored <= words:
             break
-        sets = wider
-    return all_runs_over(test, sets)
+        words |= stored
+    return runs
 
 
 # --- Operations (MODEL 2) ----------------------------------------------------------------------------------------
@@ -789,12 +766,6 @@ def runs_slot_between(slot, a, b):
                                      for step in a.run.steps)
 
 
-def is_fenced(preserved, a, b):
-    """Is there a fence between them that orders them: a written one, or a placed one?"""
-    written = any(step.instruction.form == 'fence' and orders(step.instruction.pairs, a, b) for step in between(a, b))
-    return written or any(orders(pairs, a, b) and runs_slot_between(slot, a, b) for slot, pairs in preserved.placed)
-
-
 RULES = [
     # 1: overlapping addresses: a store comes after what accesses its word before
     lambda preserved, a, b: b.stores and a.address == b.address,
@@ -804,11 +775,14 @@ RULES = [
                              and not any(m.stores and m.address == a.address for m in between(a, b))),
     # 3: a load returns what an AMO or sc.w stored
     lambda preserved, a, b: a.instruction.form in ('amo', 'sc') and b.loads and preserved.rf[b] is a,
-    is_fenced,
+    # 4: a fence between them orders them: a written one, or a placed one
+    lambda preserved, a, b: (
+        any(step.instruction.form == 'fence' and orders(step.instruction.pairs, a, b) for step in between(a, b))
+        or any(orders(pairs, a, b) and runs_slot_between(slot, a, b) for slot, pairs in preserved.placed)),
     # 5 to 7: annotations; in the last both are RCsc
-    lambda preserved, a, b: a.is_acquire(),
-    lambda preserved, a, b: b.is_release(),
-    lambda preserved, a, b: (a.is_acquire() or a.is_release()) and (b.is_acquire() or b.is_release()),
+    lambda preserved, a, b: a.instruction.acquires,
+    lambda preserved, a, b: b.instruction.releases,
+    lambda preserved, a, b: all(it.instruction.acquires or it.instruction.releases for it in (a, b)),
     # 8: a is paired with b
     lambda preserved, a, b: (a, b) in a.run.pairs,
     # 9 and 10: by address and by data
@@ -925,10 +899,11 @@ class Execution:
     def has_outcome(self):
         return self.operations.have_outcome({store.address: store.stored for store in self.gmo if store.stores})
 
-    def width(self, slot):
-        """The pairs that a fence at this slot may have and order no two operations against this execution."""
-        turned = [(a, b) for a, b in self.turned if runs_slot_between(slot, a, b)]
-        return {pair for pair in ALL_PAIRS if not any(orders([pair], a, b) for a, b in turned)}
+    def breaking(self, slot):
+        """The kinds that order two operations against this execution as a fence at this slot."""
+        turned = [(a.classes, b.classes) for a, b in self.turned if runs_slot_between(slot, a, b)]
+        pairs = {p + s for before, after in turned for p in before for s in after}
+        return {kind for kind in KINDS if PAIRS[kind] & pairs}
 
 
 def execution_of(test, witness):
@@ -946,16 +921,9 @@ def execution_of(test, witness):
 # --- The file (CERTIFICATE 1) ------------------------------------------------------------------------------------
 
 NAME = re.compile('P(0|[1-9][0-9]*):(0|[1-9][0-9]*)')
+BYTE = '([1-9]?[0-9]|1[0-9]{2}|2[0-4][0-9]|25[0-5])'
+BYTE_NAME = re.compile('P%s:%s' % (BYTE, BYTE))         # as in inferences
 CAUSES = ['p%d' % rule for rule in range(1, 14)] + ['rf', 'co', 'fr']
-
-
-def is_name_of_operation(value):
-    return type(value) is str and NAME.fullmatch(value) is not None
-
-
-def is_byte_name(value):
-    """A name both numbers of which are of one byte, as in inferences."""
-    return is_name_of_operation(value) and all(len(part) < 4 and int(part) < 256 for part in value[1:].split(':'))
 
 
 def any_of(*forms):
@@ -969,70 +937,27 @@ def some_of(form, most=math.inf):
 
 
 CAUSE = any_of(*CAUSES)
-CYCLE = some_of((is_name_of_operation, CAUSE), 64)
+CYCLE = some_of((NAME, CAUSE), 64)
 # items of a tree: a split, or a leaf that needs no bound; and in later versions those that do
 ITEM_OF_1 = any_of(is_whole, 'c', ('w', is_whole))
 ITEM = any_of(ITEM_OF_1, ('b', some_of(is_whole)))
 # an item of a refutation: a letter and what it speaks of, or a cycle
-INFERENCE = any_of(('c', is_byte_name), ('s', is_byte_name), ('o', is_byte_name, is_byte_name), ('d', is_whole),
-                   ('f', lambda hart: is_whole(hart, 256)), ('l', is_byte_name, is_byte_name),
-                   ('a', is_byte_name, is_byte_name), ('a', is_byte_name, is_byte_name, is_byte_name),
-                   some_of((is_byte_name, CAUSE), 64))
+INFERENCE = any_of(('c', BYTE_NAME), ('s', BYTE_NAME), ('o', BYTE_NAME, BYTE_NAME), ('d', is_whole),
+                   ('f', lambda hart: is_whole(hart, 256)), ('l', BYTE_NAME, BYTE_NAME),
+                   ('a', BYTE_NAME, BYTE_NAME), ('a', BYTE_NAME, BYTE_NAME, BYTE_NAME), some_of((BYTE_NAME, CAUSE), 64))
 ANSWER = any_of('none', {'cost': is_whole, 'fences': [str]})
-WITNESS = {'choices': [[any_of(bool, lambda choice: is_whole(choice, WORDS))]], 'order': [is_name_of_operation]}
+WITNESS = {'choices': [[any_of(bool, lambda choice: is_whole(choice, WORDS))]], 'order': [NAME]}
 FILE = any_of(*[{'version': version, 'answer': ANSWER, 'cycles': [INFERENCE if version == 4 else CYCLE],
                  'tree': [ITEM if version > 1 else ITEM_OF_1], 'witnesses': [WITNESS]} for version in (1, 2, 4)])
+# over sites (CERTIFICATE 7)
 SITES_FILE = {'version': 5, 'answer': ANSWER, 'cycles': [[INFERENCE]], 'tree': (),
               'witnesses': [{**WITNESS, 'test': is_whole}]}
-
-
-def certificate_of(data, of_sites=False):
-    """The certificate that these bytes are, or that over sites (CERTIFICATE 7)."""
-    value = json_of(data)
-    if has_form(value, SITES_FILE if of_sites else FILE):
-        return value
-    raise Fault('fault F18 BadCertificate')
 
 
 # --- Refutations (REFUTATIONS 1 to 4) ----------------------------------------------------------------------------
 
 INITIAL = 'the initial store'       # as the source of a load: that of its location, which has no name
 NOWHERE = (-1, -1)                  # stands for each name of no memory instruction
-
-
-class OnlyRun:
-    """One run of a hart, whatever the others do. Its steps go by their names, which are hart and instruction."""
-
-    def __init__(self, run, slots, placement):
-        self.registers, self.steps = run.registers, {(run.hart, step.position): step for step in run.steps}
-        self.operations = {name: step for name, step in self.steps.items() if step.address is not None}
-        # by the name of an operation the address and the word that it loads, and that it stores
-        self.loads = {name: (it.address, it.loaded) for name, it in self.operations.items() if it.loads}
-        self.stores = {name: (it.address, it.stored) for name, it in self.operations.items() if it.stores}
-        self.preserved = Preserved({}, slots, placement)
-        self.rule = functools.cache(self.preserved.rule)    # of rules that ask for no source
-
-    def choice(self, name):
-        """What the run chooses there, as a number: first those that don't execute it; then, as in choice order, words
-        rising, and success before failure. An instruction that chooses nothing has one number."""
-        step = self.steps.get(name)
-        if step is None:
-            return 0
-        if step.instruction.form == 'sc':
-            return 1 if step.stores else 2
-        return step.loaded + 1 if step.loads else 1
-
-    def has_rule(self, number, a, b, sources):
-        """Does the rule put a before b, with these sources of loads?"""
-        first, second = self.operations.get(a), self.operations.get(b)
-        if first is None or second is None:
-            return False
-        if number not in (2, 3, 12):
-            return self.rule(number, first, second)
-        outside = collections.defaultdict(Step)             # an operation of no hart for each source outside of the run
-        self.preserved.rf = {operation: self.operations.get(sources.get(name)) or outside[sources.get(name)]
-                             for name, operation in self.operations.items()}
-        return self.preserved.rule(number, first, second)
 
 
 class Region(collections.namedtuple('Region', 'runs sources before wanted')):
@@ -1048,19 +973,20 @@ class Refutation:
     """The inferences by which no candidate of a test has the outcome without a cycle, under a placement."""
 
     def __init__(self, test, slots, placement):
-        self.test = test
-        self.runs = [[OnlyRun(run, slots, placement) for run in runs] for runs in all_runs(test)]
+        self.test, self.runs, self.preserved = test, all_runs(test), Preserved({}, slots, placement)
+        self.rule = functools.cache(self.preserved.rule)        # of rules that ask for no source
         self.names = test.memory_instructions()
         self.named = {'P%d:%d' % name: name for name in self.names}
 
-    def check(self, inferences):
+    def check(self, inferences, reason=None):
+        """Checks them, for this reason or those of a test alone."""
         root = Region(self.runs, {}, frozenset(), [self.test.wanted])       # all candidates that have the outcome
         regions = [root] if all(root.runs) else []                          # still to be refuted, the next one last
         for number, inference in enumerate(inferences):
-            ask(regions, 'cycles')
-            self.reason = 'cycle %d' % number
+            ask(regions, reason or 'cycles')
+            self.reason = reason or 'cycle %d' % number
             regions += [child for child in reversed(self.after(regions.pop(), inference)) if all(child.runs)]
-        ask(not regions, 'cycles')
+        ask(not regions, reason or 'cycles')
 
     def after(self, region, inference):
         """The regions of which it refutes this one if all are refuted: none where the inference is an end."""
@@ -1090,7 +1016,9 @@ class Refutation:
                 before, behind = region.wanted[:number], region.wanted[number + 1:]
                 return [region._replace(wanted=before + way + behind) for way in ways]
             case 'f', hart:
-                return self.by_outcome(region, hart)
+                # left are those of the hart's runs with each of which the wanted conditions may be so
+                ask(hart < len(region.runs), self.reason)
+                return [region.keeping(hart, lambda run: self.may_be(region.keeping(hart, lambda it: it is run)))]
             case 'l', load, store:
                 # the load returns from a store that one of its own hart, before the load, overwrites
                 is_end = store[0] == load[0] and store[1] < load[1] and self.overwrites(region, store, load)
@@ -1115,18 +1043,12 @@ class Refutation:
         return decided.keeping(load[0], lambda run: run.loads.get(load) in stored).keeping(
             source[0], lambda run: run.stores.get(source) in loaded)
 
-    def by_outcome(self, region, hart):
-        """Of the hart's runs those with each of which the wanted conditions may have their truth values."""
-        ask(hart < len(region.runs), self.reason)
-
-        def may_be(run):
-            alone = region.keeping(hart, lambda other: other is run)
-            return all(value in truths(condition, functools.partial(self.truths_of_atom, alone))
-                       for condition, value in region.wanted)
-
-        return [region.keeping(hart, may_be)]
-
     # What may be in some candidate of a region
+
+    def may_be(self, region):
+        """May the wanted conditions have their truth values?"""
+        return all(value in truths(condition, functools.partial(self.truths_of_atom, region))
+                   for condition, value in region.wanted)
 
     def truths_of_atom(self, region, kind, place, word):
         if kind == 'register':
@@ -1165,7 +1087,19 @@ class Refutation:
                 return a != b and self.overwrites(region, b, a)
         is_known = cause != 'p2' or {a, b} <= region.sources.keys()
         return a[0] == b[0] and a is not NOWHERE and is_known and all(
-            run.has_rule(int(cause[1:]), a, b, region.sources) for run in region.runs[a[0]])
+            self.has_rule(run, int(cause[1:]), a, b, region.sources) for run in region.runs[a[0]])
+
+    def has_rule(self, run, number, a, b, sources):
+        """Does the rule put a before b in this run, with these sources of loads?"""
+        first, second = run.named.get(a), run.named.get(b)
+        if first is None or second is None:
+            return False
+        if number not in (2, 3, 12):
+            return self.rule(number, first, second)
+        outside = collections.defaultdict(Step)             # an operation of no hart for each source outside of the run
+        self.preserved.rf = {operation: run.named.get(sources.get(name)) or outside[sources.get(name)]
+                             for name, operation in run.named.items()}
+        return self.preserved.rule(number, first, second)
 
     def is_split_pair(self, region, lr, sc, other=None):
         """The sc.w of the pair is before what its lr.w returns from, or another hart's store is between the two."""
@@ -1191,12 +1125,15 @@ class Checker:
     """Tests, each with its path and its places for fences, slots with names, a price list, and a certificate file. A
     placement has a kind or None for each name, for all its places. The checks raise Refused with the first reason."""
 
-    def __init__(self, tests, places, prices, certificate, is_alone):
+    def __init__(self, tests, prices, certificate, is_free):
         self.paths, self.tests = [path for path, _ in tests], [test for _, test in tests]
-        self.places, self.prices, self.certificate, self.is_alone = places, prices, certificate, is_alone
-        self.names = list(dict.fromkeys(name for each in places for _, name in each))
+        self.prices, self.certificate, self.is_alone = prices, certificate, is_free and len(tests) == 1
+        prefixes = [None if not is_free else '' if self.is_alone else f'{path}:' for path in self.paths]
+        self.places = [*map(self.places_of, self.tests, prefixes)]
+        self.names = list(dict.fromkeys(name for each in self.places for _, name in each))
         self.costs = [{None: 0, **{kind: prices.at(name, kind) for kind in prices.offered}} for name in self.names]
         self.execution, self.shown = functools.cache(self.execution), functools.cache(self.shown)
+        self.of_witness = [witness.get('test', 0) for witness in certificate['witnesses']]      # the numbers of tests
         self.answer = None
 
     def check(self):
@@ -1207,6 +1144,8 @@ class Checker:
             self.shown(0, ('rw,rw',) * len(self.names))
         else:
             self.check_answer()
+            claim = {'cost': self.cost(self.answer), 'fences': ['%s=%s' % fence for fence in self.fences()]}
+            ask(self.certificate['answer'] == claim, 'answer')
             self.check_cycles()
 
     def image(self, number, placement):
@@ -1214,20 +1153,15 @@ class Checker:
         kinds = dict(zip(self.names, placement))
         return [slot for slot, _ in self.places[number]], [kinds[name] for _, name in self.places[number]]
 
-    def test_of(self, number):
-        """The number of the test of this witness."""
-        return self.certificate['witnesses'][number].get('test', 0)
-
     def execution(self, number):
-        witnesses = self.certificate['witnesses']
-        if number < len(witnesses) and self.test_of(number) < len(self.tests):
-            return execution_of(self.tests[self.test_of(number)], witnesses[number])
+        if number < len(self.of_witness) and self.of_witness[number] < len(self.tests):
+            return execution_of(self.tests[self.of_witness[number]], self.certificate['witnesses'][number])
         return None
 
     def shown(self, number, placement):
         """The execution of this witness, which must show the outcome of its test under this placement."""
         execution = self.execution(number)
-        ask(execution and execution.obeys_axioms(*self.image(self.test_of(number), placement))
+        ask(execution and execution.obeys_axioms(*self.image(self.of_witness[number], placement))
             and execution.has_outcome(), 'witness %d' % number)
         return execution
 
@@ -1238,15 +1172,11 @@ class Checker:
         """The names that have a fence in the answer, each with its kind."""
         return [(name, kind) for name, kind in zip(self.names, self.answer) if kind is not None]
 
-    def claim(self):
-        """The answer as a certificate says it."""
-        return {'cost': self.cost(self.answer), 'fences': ['%s=%s' % fence for fence in self.fences()]}
-
     def lines(self):
         if self.answer is None:
             witness = self.certificate['witnesses'][0]
             said = json.dumps({key: witness[key] for key in ('choices', 'order')}, separators=(',', ':'))
-            return ['none'] + [self.paths[self.test_of(0)]] * (not self.is_alone) + [said]
+            return ['none'] + [self.paths[self.of_witness[0]]] * (not self.is_alone) + [said]
         # of one test alone a place may be a slot
         return ['fenced %d' % self.cost(self.answer)] + [
             'fence %s %s %s' % (*name.split(':'), kind) if self.is_alone and ':' in name else f'site {name} {kind}'
@@ -1256,10 +1186,8 @@ class Checker:
 class TreeChecker(Checker):
     """The checker for one test, whose places are its slots."""
 
-    def __init__(self, test, prices, certificate):
-        places = [(slot, 'P%d:%d' % slot) for slot in test.slots()]
-        super().__init__([('', test)], [places], prices, certificate, True)
-        self.test, self.version = test, certificate['version']
+    def places_of(self, test, prefix):
+        return [(slot, 'P%d:%d' % slot) for slot in test.slots()]
 
     def check(self):
         super().check()
@@ -1267,19 +1195,19 @@ class TreeChecker(Checker):
             self.check_tree()
 
     def check_answer(self):
-        """The fences are a placement of offered kinds, in slot order, and cost what is said."""
+        """The fences are a placement of offered kinds, by slots."""
         kinds = dict(text.partition('=')[::2] for text in self.certificate['answer']['fences'])
         self.answer = tuple(map(kinds.get, self.names))
-        ask({*kinds.values()} <= {*self.prices.offered} and self.certificate['answer'] == self.claim(), 'answer')
+        ask({*kinds.values()} <= {*self.prices.offered}, 'answer')
 
     def check_cycles(self):
         """One cycle for each candidate that shows the outcome, in the candidates' order."""
         cycles, image = self.certificate['cycles'], self.image(0, self.answer)
-        if self.version == 4:
-            Refutation(self.test, *image).check(cycles)
+        if self.certificate['version'] == 4:
+            Refutation(self.tests[0], *image).check(cycles)
             return
         # One more than there are cycles is enough to see that there are too few.
-        showing = list(itertools.islice(candidates(self.test), len(cycles) + 1))
+        showing = list(itertools.islice(candidates(self.tests[0]), len(cycles) + 1))
         ask(len(showing) == len(cycles), 'cycles')
         for number, (candidate, cycle) in enumerate(zip(showing, cycles)):
             ask(candidate.has_cycle(Preserved(candidate.rf, *image), cycle), 'cycle %d' % number)
@@ -1308,67 +1236,56 @@ class TreeChecker(Checker):
         first slot where they differ it has none, or the kind that stands earlier in the table?"""
         order = [None] + KINDS
         (cost, kinds), (least, others) = [(self.cost(it), [*map(order.index, it)]) for it in (floor, self.answer)]
-        return cost + more < least or self.version > 1 and cost + more == least and kinds < others
+        return cost + more < least or self.certificate['version'] > 1 and cost + more == least and kinds < others
 
     def bound(self, part, executions):
         """Do these executions bound the leaf (CERTIFICATE 4)? Each counts with the least price of a kind that breaks it
         in one of its breakable slots, and no slot is breakable for two."""
-        breaks, slots = [], []
+        more, slots = 0, []
         for execution in executions:
-            breaks.append([])
+            prices = []
             for (slot, _), costs, decision in zip(self.places[0], self.costs, part):
-                width = execution.width(slot) if decision == UNDECIDED else set(ALL_PAIRS)
-                prices = [price for kind, price in costs.items() if not PAIRS[kind] <= width]
-                breaks[-1] += prices
-                slots += [slot] * bool(prices)
-        if len(slots) != len(set(slots)):
-            return False
-        return not all(breaks) or not self.is_better(completed(part, None), sum(map(min, breaks)))
+                kinds = execution.breaking(slot) & costs.keys() if decision == UNDECIDED else ()
+                prices += [costs[kind] for kind in kinds]
+                slots += [slot] * bool(kinds)
+            more += min(prices, default=math.inf)
+        return len(slots) == len(set(slots)) and not self.is_better(completed(part, None), more)
 
 
 # --- Certificates over sites (FORMAT 21, CERTIFICATE 7) -----------------------------------------------------------
 
-def places_of(test, prefix=None):
-    """The copies of sites in this test: the slot of each, hart and instruction, and the name of its site, which is the
-    label without digits and `_` at its end, or all of it where nothing else is there. With a prefix each slot at which
-    no label names a site is one of its own, whose name it begins."""
-    found = {}
-    for hart, (position, label, line) in ((hart, mark) for hart, marks in enumerate(test.labels) for mark in marks):
-        if (hart, position) in found:
-            raise Fault('fault F6 BadLabel line %d' % line)
-        found[hart, position] = label.rstrip('0123456789_') or label
-    own = test.slots() if prefix is not None else []
-    return sorted({**{slot: '%sP%d:%d' % (prefix, *slot) for slot in own}, **found}.items())
-
-
 class SitesChecker(Checker):
     """The checker for the sites of several tests; may slots be sites of their own?"""
 
-    def __init__(self, tests, prices, certificate, is_free=False):
-        prefixes = [(f'{path}:' if len(tests) > 1 else '') if is_free else None for path, _ in tests]
-        places = [places_of(test, prefix) for (_, test), prefix in zip(tests, prefixes)]
-        super().__init__(tests, places, prices, certificate, is_free and len(tests) == 1)
+    def places_of(self, test, prefix):
+        """The copies of sites in this test: the slot of each, hart and instruction, and the name of its site, which is
+        the label without digits and `_` at its end, or all of it where nothing else is there. With a prefix each slot
+        at which no label names a site is one of its own, whose name it begins."""
+        found = {}
+        for slot, label, line in test.labels:
+            if slot in found:
+                raise Fault('fault F6 BadLabel line %d' % line)
+            found[slot] = label.rstrip('0123456789_') or label
+        own = test.slots() if prefix is not None else []
+        return sorted({**{slot: '%sP%d:%d' % (prefix, *slot) for slot in own}, **found}.items())
 
     def check_answer(self):
         """It is the first cheapest one that breaks all executions of the witnesses: each at a place in its test."""
-        broken, count = [dict.fromkeys(costs, 0) for costs in self.costs], len(self.certificate['witnesses'])
-        for number in range(count):
+        broken = [dict.fromkeys(costs, 0) for costs in self.costs]
+        for number, test in enumerate(self.of_witness):
             execution = self.shown(number, (None,) * len(self.names))
-            for slot, name in self.places[self.test_of(number)]:
-                breaks, width = broken[self.names.index(name)], execution.width(slot)
-                breaks.update({kind: breaks[kind] | 1 << number for kind in breaks if not PAIRS[kind] <= width})
-        self.answer = cheapest(self.costs, broken, (1 << count) - 1)
-        ask(self.answer is not None and self.certificate['answer'] == self.claim(), 'answer')
+            for slot, name in self.places[test]:
+                breaks = broken[self.names.index(name)]
+                breaks.update({kind: breaks[kind] | 1 << number for kind in breaks.keys() & execution.breaking(slot)})
+        self.answer = cheapest(self.costs, broken, (1 << len(self.of_witness)) - 1)
+        ask(self.answer is not None, 'answer')
 
     def check_cycles(self):
         """For each test a refutation of it under the answer."""
         lists = self.certificate['cycles']
         ask(len(lists) == len(self.tests), 'cycles %d' % min(len(lists), len(self.tests)))
         for number, (test, inferences) in enumerate(zip(self.tests, lists)):
-            try:
-                Refutation(test, *self.image(number, self.answer)).check(inferences)
-            except Refused:
-                raise Refused('cycles %d' % number)
+            Refutation(test, *self.image(number, self.answer)).check(inferences, 'cycles %d' % number)
 
 
 def cheapest(costs, broken, every):
@@ -1377,13 +1294,10 @@ def cheapest(costs, broken, every):
     places that leave the same executions unbroken it goes on from the first cheapest alone."""
     best = {every: (0, ())}             # by what is unbroken the cost, and the numbers of the options
     for at, breaks in enumerate(broken):
-        ways = {}                       # by what breaks, the price and the number of the first cheapest option
-        for number, (kind, price) in enumerate(costs[at].items()):
-            ways[breaks[kind]] = min((price, number), ways.get(breaks[kind], (price, number)))
         later = functools.reduce(operator.or_, [bits for each in broken[at + 1:] for bits in each.values()], 0)
         wider = {}
-        for (left, (cost, chosen)), (bits, (price, number)) in itertools.product(best.items(), ways.items()):
-            left, found = left & ~bits, (cost + price, (*chosen, number))
+        for (left, (cost, chosen)), (number, kind) in itertools.product(best.items(), enumerate(costs[at])):
+            left, found = left & ~breaks[kind], (cost + costs[at][kind], (*chosen, number))
             if not left & ~later:
                 wider[left] = min(found, wider.get(left, found))
         best = wider
@@ -1406,14 +1320,16 @@ class Judge:
 
     def __init__(self, tests, prices, is_sites=False, is_free=False):
         self.tests, self.prices = [(path, read(path, test_of)) for path in tests], read(prices, prices_of, is_sites)
-        self.is_sites, self.is_free = is_sites, is_free
+        self.is_sites, self.is_free = is_sites, is_free or not is_sites
 
     def verdict(self, data):
         """What is to be said of these bytes."""
         try:
-            certificate = certificate_of(data, self.is_sites)
-            checker = (SitesChecker(self.tests, self.prices, certificate, self.is_free) if self.is_sites
-                       else TreeChecker(self.tests[0][1], self.prices, certificate))
+            kind, form = (SitesChecker, SITES_FILE) if self.is_sites else (TreeChecker, FILE)
+            certificate = json_of(data)
+            if not has_form(certificate, form):
+                raise Fault('fault F18 BadCertificate')
+            checker = kind(self.tests, self.prices, certificate, self.is_free)
             checker.check()
             return Said('\n'.join(['yes', *checker.lines(), '']), '', 0)
         except Refused as reason:

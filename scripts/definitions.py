@@ -10,7 +10,7 @@ import os
 import re
 import sys
 
-from running import TOP, decoded, reached, read, rows
+from running import TOP, decoded, read, rows
 
 IMPORT = re.compile(r"^(pub |ghost )?use Rattle\.(\w+)\.specs\.([\w.'-]+?)(?:\.\{([^}]*)\}| as (\w+))?;?$", re.M)
 ITEM = re.compile(r"^( *)(?:abbrev|unfoldable|pub record|pub data|record|data) (?:pub )?([^\s:]+)", re.M)
@@ -18,7 +18,7 @@ MODULE = re.compile(r"^module _ .*\n", re.M)
 CONSTRUCTORS = re.compile(r"^(?:  ){1,2}([^\s:(){}→][^:(){}→\n]*?) :", re.M)
 COMMENT = re.compile(r"(?:^|(?<=\s))--(?:\s.*)?$", re.M)
 WORD = re.compile(r"[^\s(){};,λ→×↔]+")
-TYPE = r"^(?:pub(?:\(\w+\))? )?(?:struct|enum|type) {}\b.*"
+TYPE = r"^(?:pub(?:\(\w+\))? )?(?:struct|enum|type) {}\b(?:.*[;}}]$|.*\n(?:[^}}\n].*\n|\n)*\}})"
 USE = r"^use (crate|fs_\w+)::(?:\w+::)*(?:\{{[^}}]*\b{}\b[^}}]*\}}|{});"
 HEADER = re.compile(r'(?:#![^\n]*\n)?(?:"""(.*?)(?:\n\n|""")|/\*(.*?)\*/|((?:(?:#(?!!)|//!|--)[^\n]*\n)+))', re.S)
 PLAIN_TYPES = {"Option", "Box", "Vec", "String", "List", "Self", "Arc"}
@@ -107,12 +107,9 @@ def node_of(crate, path, name):
 @functools.cache
 def type_lines(file, name):
     """The lines of a type of the code, without comments and attributes."""
-    lines = text_of(file).split("\n")
-    first = next((number for number, it in enumerate(lines) if re.match(TYPE.format(re.escape(name)), it)), None)
-    if first is None or re.search(r"[;}]$", lines[first]):
-        return [] if first is None else [lines[first]]
-    last = next(number for number in range(first, len(lines)) if lines[number].startswith("}"))
-    return [it for it in lines[first:last + 1] if it.strip() and not re.match(r"\s*(?://|#\[)", it)]
+    found = re.search(TYPE.format(re.escape(name)), text_of(file), re.M)
+    lines = found[0].split("\n") if found else []
+    return [it for it in lines if it.strip() and not re.match(r"\s*(?://|#\[)", it)]
 
 
 def named_in(file, text):
@@ -138,9 +135,8 @@ def rests_on(node):
     lines, crate, found = type_lines(file, name), file.split("/")[1], set()
     for other in set(re.findall(r"\b[A-Z]\w*\b", "\n".join(lines[1:] or lines))) - PLAIN_TYPES:
         used = re.search(USE.format(other, other), text_of(file), re.M)
-        home = f"crates/{crate if not used or used[1] == 'crate' else used[1]}/src"
-        there = [f"{home}/{it}" for it in os.listdir(f"{TOP}/{home}")] if used else [file]
-        found.update((it, other) for it in there if it.endswith(".rt") and type_lines(it, other))
+        there = files(f"crates/{crate if used[1] == 'crate' else used[1]}/src/*.rt") if used else [file]
+        found.update((it, other) for it in there if type_lines(it, other))
     return found
 
 
@@ -153,7 +149,11 @@ def needed_by(*names):
         contract = re.search(rf"^( *)(?:pub )?fn {function}\b(?:.*\n)+?\1\{{(?:\}}| |$)", text_of(file), re.M)
         found[words] = set(named_in(file, contract[0])) if contract else set()
     nodes = [found[it] - {None} or sys.exit(f"definitions: there is no {it}, or it has no contract") for it in found]
-    return reached(itertools.chain(*nodes), rests_on)
+    reached, more = set(), set().union(*nodes)
+    while more:
+        reached |= more
+        more = set().union(*map(rests_on, more)) - reached
+    return reached
 
 
 def size_of(nodes):

@@ -16,11 +16,15 @@ ANNOTATIONS = [''] * 4 + ['.aq', '.rl', '.aqrl']
 MOST_CANDIDATES, MOST_PLACEMENTS = 300, 20000
 
 
+def rows_of(columns):
+    """The lines of a test that have these cells of each hart."""
+    return [" | ".join(row) + " ;" for row in itertools.zip_longest(*columns, fillvalue="")]
+
+
 def test_text(name, entries, harts, condition):
     """A test in the printed form: lines of its init block, the cells of each hart, and the line of its condition."""
-    rows = [" | ".join(row) + " ;" for row in itertools.zip_longest(*harts, fillvalue="")]
-    header = " | ".join(f"P{hart}" for hart in range(len(harts))) + " ;"
-    return "\n".join([f"RISCV {name}", "{", *entries, "}", header, *rows, condition, ""])
+    rows = rows_of([[f"P{hart}", *cells] for hart, cells in enumerate(harts)])
+    return "\n".join([f"RISCV {name}", "{", *entries, "}", *rows, condition, ""])
 
 
 def fence_of(kind):
@@ -104,60 +108,55 @@ class Code:
         return [*self.cells, 'OUT:']
 
 
-class Maker:
-    """Makes the test and the prices of a number."""
+def made_prices(chance, slots):
+    """One of the lists of examples/ as it is, or made."""
+    if chance.random() < 0.4:
+        return json.loads(read(f'{EXAMPLES}/{chance.choice(PRICE_LISTS)}'))
+    most = chance.choice([2, 4, 12])
+    offered = chance.sample(model.KINDS, chance.randint(1, 6))
+    prices = {kind: chance.randint(1, most) for kind in sorted({*offered, 'rw,rw'})}
+    if chance.random() < 0.5:
+        prices['weights'] = {f'P{hart}:{at}': chance.randint(0, 3) for hart, at in slots if chance.random() < 0.5}
+    return {key: prices[key] for key in sorted(prices)}
 
-    def __init__(self, number):
-        self.chance, self.number = random.Random('solve %d' % number), number
 
-    def text(self, codes, condition):
+def made_test(number):
+    """The bytes of the test and the prices of a number. Most have final states that are there without fences and not
+    with all."""
+    def text(condition):
         registers = sorted(LOCATIONS.items()) + sorted(WORDS.items())
         entries = [f'{hart}:{register}={value};' for hart in range(len(codes)) for register, value in registers]
-        return test_text(f'made{self.number}', entries + self.words, codes, condition)
+        return test_text(f'made{number}', entries + words, codes, condition).encode()
 
-    def prices(self, slots):
-        """One of the lists of examples/ as it is, or made."""
-        if self.chance.random() < 0.4:
-            return json.loads(read(f'{EXAMPLES}/{self.chance.choice(PRICE_LISTS)}'))
-        most = self.chance.choice([2, 4, 12])
-        offered = self.chance.sample(model.KINDS, self.chance.randint(1, 6))
-        prices = {kind: self.chance.randint(1, most) for kind in sorted({*offered, 'rw,rw'})}
-        if self.chance.random() < 0.5:
-            prices['weights'] = {f'P{hart}:{at}': self.chance.randint(0, 3) for hart, at in slots
-                                 if self.chance.random() < 0.5}
-        return {key: prices[key] for key in sorted(prices)}
-
-    def make(self):
-        """The bytes of a test and of prices. Most have final states that are there without fences and not with all."""
-        tries = self.chance.choice([1, 20, 20, 20])
-        while True:
-            harts, locations = self.chance.choice([1, 2, 2, 2, 2, 2, 3, 3, 4]), self.chance.choice([1, 2, 2, 2, 3])
-            codes = [Code(self.chance, locations).make(self.chance.randint(2, 6 - harts)) for _ in range(harts)]
-            self.words = ['%s=%s;' % (name, self.chance.choice([0] * 6 + [1, 2, 'z'])) for name in LOCATIONS.values()]
-            test = model.test_of(self.text(codes, 'exists (true)').encode())
-            data = json.dumps(self.prices(test.slots())).encode()
-            prices = model.prices_of(data)
-            if (1 + len(prices.offered)) ** len(test.slots()) > MOST_PLACEMENTS:
-                continue
-            try:
-                reference.count_candidates(test, MOST_CANDIDATES)
-                live, fences = reference.Problem(test, prices).live, ('rw,rw',) * len(test.slots())
-            except model.Fault as fault:
-                if str(fault).startswith('fault F14') and self.chance.random() < 0.1:
-                    return self.text(codes, 'exists (true)').encode(), data
-                continue
-            tries -= 1
-            states = sorted({state_of(it.candidate) for it in live}
-                            - {state_of(it.candidate) for it in live if it.survives(fences)})
-            if states or tries <= 0:
-                if not states or self.chance.random() < 0.15:
-                    states = sorted({state_of(candidate) for candidate in model.candidates(test)})
-                # a condition that is true of one or two of these final states
-                chosen = self.chance.sample(states, min(len(states), self.chance.choice([1, 1, 1, 2])))
-                states = ' \\/ '.join('(%s)' % (' /\\ '.join(state) or 'true') for state in chosen) or 'false'
-                form = self.chance.choice(['exists (%s)', 'exists (%s)', '~exists (%s)', 'forall (~(%s))'])
-                return self.text(codes, form % states).encode(), data
-
+    chance = random.Random('solve %d' % number)
+    tries = chance.choice([1, 20, 20, 20])
+    while True:
+        harts, locations = chance.choice([1, 2, 2, 2, 2, 2, 3, 3, 4]), chance.choice([1, 2, 2, 2, 3])
+        codes = [Code(chance, locations).make(chance.randint(2, 6 - harts)) for _ in range(harts)]
+        words = ['%s=%s;' % (name, chance.choice([0] * 6 + [1, 2, 'z'])) for name in LOCATIONS.values()]
+        test = model.test_of(text('exists (true)'))
+        data = json.dumps(made_prices(chance, test.slots())).encode()
+        prices = model.prices_of(data)
+        if (1 + len(prices.offered)) ** len(test.slots()) > MOST_PLACEMENTS:
+            continue
+        try:
+            reference.count_candidates(test, MOST_CANDIDATES)
+            live, fences = reference.Problem(test, prices).live, ('rw,rw',) * len(test.slots())
+        except model.Fault as fault:
+            if str(fault).startswith('fault F14') and chance.random() < 0.1:
+                return text('exists (true)'), data
+            continue
+        tries -= 1
+        states = sorted({state_of(it.candidate) for it in live}
+                        - {state_of(it.candidate) for it in live if it.survives(fences)})
+        if states or tries <= 0:
+            if not states or chance.random() < 0.15:
+                states = sorted({state_of(candidate) for candidate in model.candidates(test)})
+            # a condition that is true of one or two of these final states
+            chosen = chance.sample(states, min(len(states), chance.choice([1, 1, 1, 2])))
+            states = ' \\/ '.join('(%s)' % (' /\\ '.join(state) or 'true') for state in chosen) or 'false'
+            form = chance.choice(['exists (%s)', 'exists (%s)', '~exists (%s)', 'forall (~(%s))'])
+            return text(form % states), data
 
 
 def state_of(candidate):

@@ -154,17 +154,6 @@ def crates():
     return {names.split()[0]: uses.split() for names, colon, uses in lines if colon}
 
 
-def reached(roots, steps):
-    """All that comes of these by steps, where `steps` gives what comes of one; themselves too."""
-    found, left = set(), list(roots)
-    while left:
-        node = left.pop()
-        if node not in found:
-            found.add(node)
-            left += steps(node)
-    return found
-
-
 def here(*names):
     """The path of a file of examples/ or of scripts/transcripts/files/ that has one of these names."""
     folders = [EXAMPLES, f"{TOP}/scripts/transcripts/files"]
@@ -176,23 +165,27 @@ def tests_of_examples():
     return [path for folder in (EXAMPLES, f"{EXAMPLES}/idioms") for path in sorted(glob.glob(f"{folder}/*.litmus"))]
 
 
-def transcript(said):
-    """What a run says in one text: standard output before standard error, and then its status."""
-    return f"{said.out}{said.err}[status {said.status}]"
-
-
 def stored_answers(command):
     """The transcripts of examples/answers/ of this command, by the words behind it."""
     blocks = text_of(f"{EXAMPLES}/answers/{command}.transcripts").split(f"$ rvfence {command} ")[1:]
     return {tuple(words.split()): rest for words, rest in (it.removesuffix("\n\n").split("\n", 1) for it in blocks)}
 
 
-class Counts:
-    """What passed and what failed, which threads may count at once. Of the checks that fail the first are shown."""
+class Run:
+    """A run of checks: what passed and what failed, which threads may count at once, and how many there were of each
+    kind; a folder of its own, and its options. Of the checks that fail the first are shown."""
 
-    def __init__(self, most_shown=40):
-        self.lock, self.most_shown = threading.Lock(), most_shown
-        self.passed = self.failed = 0
+    def __init__(self, folder=None, options=None, most_shown=40):
+        self.lock, self.folder, self.options, self.most_shown = threading.Lock(), folder, options, most_shown
+        self.passed, self.failed, self.kinds = 0, 0, collections.Counter()
+
+    def numbers(self):
+        """The numbers of the made tests that are asked for: so many, from the first on."""
+        return range(self.options.first, self.options.first + self.options.count)
+
+    def file(self, name, data):
+        """The path of a file in its folder, which gets these bytes or this text."""
+        return written(f"{self.folder}/{name}", data)
 
     def check(self, name, is_right, found=""):
         """Counts a check; where it isn't right, `found` says why not."""
@@ -211,22 +204,6 @@ class Counts:
         """Prints the last line, and gives the exit status: 0 only where there was a check, and all passed."""
         print(f"{self.passed} passed, {self.failed} failed", flush=True)
         return 0 if self.passed and not self.failed else 1
-
-
-class Run(Counts):
-    """A run of a check: its counts, a folder of its own, its options, and how many there were of each kind."""
-
-    def __init__(self, folder, options):
-        super().__init__()
-        self.folder, self.options, self.kinds = folder, options, collections.Counter()
-
-    def numbers(self):
-        """The numbers of the made tests that are asked for: so many, from the first on."""
-        return range(self.options.first, self.options.first + self.options.count)
-
-    def file(self, name, data):
-        """The path of a file in its folder, which gets these bytes or this text."""
-        return written(f"{self.folder}/{name}", data)
 
 
 def difference(wanted, found):
@@ -249,14 +226,14 @@ def usage(text):
 def kept(made, bare=str, look=lambda counts: None):
     """The end of a script that makes files of the repository: `made` gives their texts by path. It writes them, or with
     `--check` says whether they are so, but for what `bare` leaves out, and looks at more."""
-    counts, is_check = Counts(), sys.argv[1:] == ["--check"]
-    if sys.argv[1:] and not is_check:
-        usage(sys.modules["__main__"].__doc__)
-    for path, text in made().items():
-        if is_check:
-            counts.expect(f"{path}, as {sys.argv[0]} makes it", bare(text), bare(text_of(path)))
-        else:
+    if not sys.argv[1:]:
+        for path, text in made().items():
             written(path, text)
-    if is_check:
-        look(counts)
-    return counts.end() if is_check else 0
+        return 0
+    if sys.argv[1:] != ["--check"]:
+        usage(sys.modules["__main__"].__doc__)
+    counts = Run()
+    for path, text in made().items():
+        counts.expect(f"{path}, as {sys.argv[0]} makes it", bare(text), bare(text_of(path)))
+    look(counts)
+    return counts.end()

@@ -22,6 +22,7 @@ YES = Said('yes\n', '', 0)
 ALWAYS = ('constant', True)
 WORDS = {'exists': 'Allowed', '~exists': 'Forbidden', 'forall': 'Required'}
 READ = 'a test'                     # the answer of a file that has no fault
+ONES = model.prices_of(b'{"rw,rw":1}')
 
 
 def count_candidates(test, most=MOST_CANDIDATES):
@@ -52,14 +53,10 @@ def joined(rows, others):
 
 def has_cycle(rows):
     """Does a chain of edges come back? Takes away what has no edge to anything left, for as long as there is any."""
-    left = (1 << len(rows)) - 1
-    while left:
-        last = [number for number in range(len(rows)) if left >> number & 1 and not rows[number] & left]
-        if not last:
-            return True
-        for number in last:
-            left &= ~(1 << number)
-    return False
+    before, left = 0, (1 << len(rows)) - 1
+    while left != before:
+        before, left = left, sum(1 << number for number, row in enumerate(rows) if left >> number & 1 and row & left)
+    return left != 0
 
 
 def rows_where(operations, is_edge):
@@ -71,39 +68,31 @@ SOURCE_CAUSES = ('rf', 'co', 'fr', 'p2', 'p3', 'p12')       # those that look at
 OTHER_RULES = (1, 4, 5, 6, 7, 8, 9, 10, 11, 13)             # of rule 4 the written fences alone are meant here
 
 
-class Fences:
-    """What the runs alone decide: the edges of the rules that look at no source, and those of a fence at each slot."""
-
-    def __init__(self, operations, slots):
-        self.rows, self.at = [], [{pair: [] for pair in model.ALL_PAIRS} for _ in slots]
-        for run in operations.runs:
-            rows, at_slots = self.of_run(run, slots)
-            first = len(self.rows)          # the number of the hart's first operation
-            self.rows += [row << first for row in rows]
-            for (at, pair), fenced in at_slots.items():
-                self.at[at][pair] += [row << first for row in fenced]
-
-    @staticmethod
-    @functools.lru_cache(10000)
-    def of_run(run, slots):
-        """The rows of a run's operations, counted from 0, and those for each slot and pair."""
-        own, preserved = run.operations, model.Preserved({}, slots, (None,) * len(slots))
-        rows = rows_where(own, lambda a, b: any(preserved.rule(number, a, b) for number in OTHER_RULES))
-        return rows, {(at, pair): rows_where(own, lambda a, b: (
-            model.po(a, b) and model.orders([pair], a, b) and model.runs_slot_between(slot, a, b)))
-            for at, slot in enumerate(slots) for pair in model.ALL_PAIRS}
+@functools.lru_cache(100000)
+def is_ordered(a, b):
+    """Does a rule that looks at no source put a before b?"""
+    return any(model.Preserved({}, (), ()).rule(number, a, b) for number in OTHER_RULES)
 
 
-class Live:
-    """A candidate without a cycle where no fence is placed."""
+@functools.lru_cache(10000)
+def fenced(operations, slot, pair):
+    """The edges of a fence with this pair at this slot."""
+    return rows_where(operations.of_harts, lambda a, b: (
+        model.po(a, b) and model.orders([pair], a, b) and model.runs_slot_between(slot, a, b)))
 
-    def __init__(self, candidate, rows, fences):
-        self.candidate, self.rows, self.fences = candidate, rows, fences
+
+class Judged:
+    """A candidate with the edges of its judged relation where no fence is placed."""
+
+    def __init__(self, candidate, slots):
+        self.candidate, self.slots, preserved = candidate, slots, model.Preserved(candidate.rf, (), ())
+        self.rows = rows_where(candidate.operations.of_harts, lambda a, b: is_ordered(a, b) or any(
+            candidate.is_edge(preserved, a, cause, b) for cause in SOURCE_CAUSES))
 
     def under(self, placement):
         """The judged relation under this placement."""
-        pairs = [self.fences.at[at][pair] for at, kind in enumerate(placement) for pair in model.PAIRS[kind]]
-        return functools.reduce(joined, pairs, self.rows)
+        pairs = [(slot, pair) for slot, kind in zip(self.slots, placement) for pair in model.PAIRS[kind]]
+        return functools.reduce(joined, [fenced(self.candidate.operations, *it) for it in pairs], self.rows)
 
     def survives(self, placement):
         return not has_cycle(self.under(placement))
@@ -111,12 +100,11 @@ class Live:
     def kept(self, placement):
         """At each slot pairs that fences may have all at once without a cycle, those of the placement included."""
         rows, kept = self.under(placement), [set(model.PAIRS[kind]) for kind in placement]
-        for pairs, fenced in zip(kept, self.fences.at):
-            for pair in model.ALL_PAIRS:
-                wider = joined(rows, fenced[pair])
-                if not has_cycle(wider):
-                    rows = wider
-                    pairs.add(pair)
+        for (slot, pairs), pair in itertools.product(zip(self.slots, kept), model.ALL_PAIRS):
+            wider = joined(rows, fenced(self.candidate.operations, slot, pair))
+            if not has_cycle(wider):
+                rows = wider
+                pairs.add(pair)
         return kept
 
     def witness(self, placement):
@@ -130,50 +118,33 @@ class Live:
 class Problem:
     """A test and prices, with the candidates that a placement must break, where they are few enough to be listed."""
 
-    def __init__(self, test, prices, most_listed=MOST_CANDIDATES):
-        self.test, self.prices, self.slots = test, prices, test.slots()
-        self.raw = count_candidates(test)
-        self.candidates, self.live = 0, []
-        self.is_listed, operations = self.raw <= most_listed, None
+    def __init__(self, test, prices=ONES, most_listed=MOST_CANDIDATES):
+        self.test, self.prices, self.slots = test, prices, tuple(test.slots())
+        # of each slot what may stand there, in the order of precedence, and what it costs
+        self.costs = [{None: 0, **{kind: prices.at(slot, kind) for kind in prices.offered}} for slot in self.slots]
+        self.raw, self.candidates, self.live = count_candidates(test), 0, []
+        self.is_listed = self.raw <= most_listed
         for candidate in model.candidates(test) if self.is_listed else ():
             self.candidates += 1
-            if operations is not candidate.operations:
-                operations = candidate.operations
-                fences = Fences(operations, tuple(self.slots))
-            preserved = model.Preserved(candidate.rf, self.slots, (None,) * len(self.slots))
-            rows = joined(fences.rows, rows_where(operations.of_harts, lambda a, b: any(
-                candidate.is_edge(preserved, a, cause, b) for cause in SOURCE_CAUSES)))
-            if not has_cycle(rows):
-                self.live.append(Live(candidate, rows, fences))
+            judged = Judged(candidate, self.slots)
+            if judged.survives((None,) * len(self.slots)):
+                self.live.append(judged)
 
     def survivor(self, placement):
-        """A candidate that this placement doesn't break, or None. It comes first the next time."""
-        for at, live in enumerate(self.live):
-            if live.survives(placement):
-                self.live.insert(0, self.live.pop(at))
-                return live
-        return None
-
-    def options(self, at):
-        """What may stand at the slot of this number, in the order of precedence."""
-        return [None] + self.prices.offered
-
-    def price(self, at, kind):
-        """What a kind or none costs at the slot of this number."""
-        return 0 if kind is None else self.prices.at(self.slots[at], kind)
+        """A candidate that this placement doesn't break, or None."""
+        return next((live for live in self.live if live.survives(placement)), None)
 
     def cost(self, placement):
-        return sum(self.price(at, kind) for at, kind in enumerate(placement))
+        return sum(costs[kind] for costs, kind in zip(self.costs, placement))
 
 
 def solved(problem):
     """The first cheapest placement that forbids the outcome; or None. Each round takes the best placement that breaks
     all executions known so far. Where it leaves a candidate without a cycle that is an execution more to break, by its
     pairs kept; else it forbids the outcome, and nothing better does, as that would leave one of those known."""
-    costs = [{kind: problem.price(at, kind) for kind in problem.options(at)} for at in range(len(problem.slots))]
-    broken = [dict.fromkeys(options, 0) for options in costs]           # of each option the executions, as bits
+    broken = [dict.fromkeys(costs, 0) for costs in problem.costs]       # of each option the executions, as bits
     for known in itertools.count():
-        placement = model.cheapest(costs, broken, (1 << known) - 1)
+        placement = model.cheapest(problem.costs, broken, (1 << known) - 1)
         live = None if placement is None else problem.survivor(placement)
         if live is None:
             return placement
@@ -217,9 +188,8 @@ def read_witness(data):
 @functools.cache
 def is_listed(path, most):
     """Has a test of examples/ so few lists of runs and candidates that they are listed here?"""
-    test = model.read(f'{EXAMPLES}/{path}', model.test_of)
     try:
-        count_candidates(test, most)
+        count_candidates(model.read(f'{EXAMPLES}/{path}', model.test_of), most)
     except model.Fault as fault:
         return str(fault) != 'fault F15 TooManyCandidates'
     return True
@@ -241,17 +211,12 @@ def is_same(test, wanted, found):
     return (none, more, *found[1:]) == ('none', [''], '', 1) and execution is not None and execution.has_outcome()
 
 
-def stores_of(run):
-    """The addresses to which a run stores, each with a word that it stores there."""
-    return frozenset((step.address, step.stored) for step in run.steps if step.stored is not None)
-
-
-def verdict_of(data, prices):
-    """What `test` says of these bytes, and the reference's problem of them; the prices count for nothing. The outcome
-    is vacuous where no runs have it with last words that these runs store, or else the location begins with."""
+def verdict_of(data):
+    """What `test` says of these bytes, and the reference's problem of them. The outcome is vacuous where no runs have
+    it with last words that these runs store, or else the location begins with."""
     test = model.test_of(data)
-    problem = Problem(test, prices)
-    ends = [{(tuple(run.registers), stores_of(run)) for run in runs} for runs in model.all_runs(test)]
+    problem = Problem(test)
+    ends = [{(tuple(run.registers), frozenset(run.stores.values())) for run in runs} for runs in model.all_runs(test)]
     for each in itertools.product(*ends):
         registers, stored = [end for end, _ in each], frozenset().union(*[stores for _, stores in each])
         words = [[word for place, word in stored if place == address] or [first]
@@ -268,12 +233,15 @@ def named(condition):
     return set().union(*map(named, condition[1:])) if condition[0] != 'constant' else set()
 
 
-class Shown:
-    """A test, and the places that are shown of it, in their order. A state has the words there. Registers go by their
-    names with x, and `locations [..]` isn't looked at."""
+class Listing:
+    """A test, the places that are shown of it, in their order, and where they are listed its executions, whatever its
+    condition, as candidates without a cycle where no fence is placed. A state has the words of the places. Registers go
+    by their names with x, and `locations [..]` isn't looked at."""
 
-    def __init__(self, data, is_all=False):
-        test = self.test = model.test_of(data)
+    def __init__(self, data, is_all=False, is_listed=True):
+        test, free = model.test_of(data), model.test_of(data)
+        free.outcome, free.wanted = ALWAYS, (ALWAYS, True)
+        self.test, self.live = test, Problem(free).live if is_listed else None
         self.title = data.decode().split('\n', 1)[0].split()[1]
         places = named(test.wanted[0])
         if is_all:
@@ -303,16 +271,6 @@ class Shown:
             return False
         last = {store.address: store.stored for store in execution.gmo if store.stores}
         return self.line_of(self.state_of(execution.operations.runs, last.get)) == line
-
-
-class Listing(Shown):
-    """The executions of a test, whatever its condition, as candidates without a cycle where no fence is placed."""
-
-    def __init__(self, data, is_all=False):
-        super().__init__(data, is_all)
-        free = model.test_of(data)
-        free.outcome, free.wanted = ALWAYS, (ALWAYS, True)
-        self.live = Problem(free, model.prices_of(b'{"rw,rw":1}')).live
 
     def states(self, placement):
         """The final states of the executions with these fences."""

@@ -15,8 +15,7 @@ import tempfile
 
 import check_certificate as model
 import solve_reference as reference
-from running import (EXAMPLES, PRICE_LISTS, TOP, Said, read, rvfence, stored_answers, tests_of_examples, text_of,
-                     transcript, written)
+from running import EXAMPLES, PRICE_LISTS, TOP, Said, read, rvfence, stored_answers, tests_of_examples, text_of, written
 
 GUIDE = f'{TOP}/docs/ANSWERS.md'
 IN_TABLE = PRICE_LISTS[:2]
@@ -45,7 +44,7 @@ def by_reference(command, *words):
             raise ValueError(f'the certificate of {words}: {verdict}')
         return said
     try:
-        test = (reference.Listing if is_listed else reference.Shown)(read(paths[0]))
+        test = reference.Listing(read(paths[0]), is_listed=is_listed)
     except model.Fault as fault:
         return Said('', f'{fault}\n', 2)
     unfenced = (None,) * len(test.test.slots())
@@ -61,7 +60,8 @@ def by_reference(command, *words):
 
 def shown(said):
     """The transcript of an answer, without the execution beside `none`."""
-    return transcript(Said('none\n', said[1], said[2]) if said[0].startswith('none\n') else Said(*said))
+    out = re.sub(r'(?s)^none\n.*', 'none\n', said[0])
+    return f'{out}{said[1]}[status {said[2]}]'
 
 
 def cell(answer):

@@ -9,13 +9,12 @@ With `--anew` the fences are taken out of the text here, cell by cell. What `--w
 forbidden as it is written has the fences that are due, is judged by `test`, and written once more: then it stays as it
 is. Where no fence names devices it is audited, too: nothing can go, and the cost is what was said."""
 import copy
-import itertools
 import random
 import re
 
 import check_certificate as model
 import solve_reference as reference
-from litmus import FENCES, Maker, fence_of
+from litmus import FENCES, fence_of, made_test, rows_of
 from running import rvfence, text_of, verdict
 
 LABEL = "OUT:"
@@ -71,8 +70,7 @@ class Columns:
 
     def text(self, shown=str):
         """The text, with each cell as `shown` prints it."""
-        rows = itertools.zip_longest(*self.cells, fillvalue="")
-        return "\n".join([*self.above, *[" | ".join(map(shown, row)) + " ;" for row in rows], self.condition, ""])
+        return "\n".join([*self.above, *rows_of([map(shown, column) for column in self.cells]), self.condition, ""])
 
     def changed(self, change):
         """The columns with each cell as `change` has it, which may be nothing."""
@@ -100,7 +98,7 @@ class Columns:
 
 def made(number):
     """The columns and the prices of the test of this number."""
-    text, prices = Maker(number).make()
+    text, prices = made_test(number)
     columns, chance = Columns(text.decode()), random.Random(f"audit {number}")
     for column in columns.cells:
         last = max([at for at, cell in enumerate(column) if re.match("b(eq|ne) ", cell.bare)], default=-1)
@@ -139,15 +137,14 @@ class Hart:
         return None
 
     def slot(self, access):
-        """The slot of an access in the test without fences."""
+        """The slot of an access in the test without fences; of None one that isn't there."""
         return self.number, sum(not cell.is_taken for cell in self.cells[:access])
 
     def answering(self, access, kind):
         """The FENCE that stands for the kind at the access, or None."""
         here = [at for at in self.fences if self.access_of(at) == access]
-        same = [at for at in here if self.cells[at].kind == kind]
-        strong = [at for at in here if is_enough(self.cells[at].kind, kind)]
-        return (same or strong or here or [None])[0]
+        kinds = {at: self.cells[at].kind for at in here}
+        return min(here, key=lambda at: (kinds[at] != kind, not is_enough(kinds[at], kind)), default=None)
 
     def is_between(self, at):
         """Are there accesses before and behind this instruction?"""
@@ -161,7 +158,7 @@ class Hart:
             return words_of(None, kind) if kind and self.answering(at, kind) is None else None
         if cell.kind is None:
             return "not for memory" if cell.letters else None
-        if access is None or self.slot(access) not in placed:
+        if self.slot(access) not in placed:
             return "at no slot" if self.is_between(at) else f"orders nothing{cell.about}"
         kind = placed[self.slot(access)]
         return words_of(cell.kind, kind if kind and self.answering(access, kind) == at else None) + cell.about
@@ -181,8 +178,7 @@ class Advised:
         # the written fence of each slot; are these all? Each must have a slot of its own, and a price
         placed, fences = dict.fromkeys(problem.slots), [(hart, at) for hart in self.harts for at in hart.fences]
         for hart, at in fences:
-            access, kind = hart.access_of(at), hart.cells[at].kind
-            slot = None if access is None else hart.slot(access)
+            slot, kind = hart.slot(hart.access_of(at)), hart.cells[at].kind
             if slot in placed and placed[slot] is None and kind in prices.offered:
                 placed[slot] = kind
         self.are_all = len(fences) == sum(kind is not None for kind in placed.values())
@@ -209,7 +205,7 @@ def by_reference(columns, data):
     """The verdict; the lines and the status that are to be printed, or a fault; and what is advised for `--write`."""
     prices = model.prices_of(data)
     try:
-        kind, _ = reference.verdict_of(columns.text().encode(), prices)
+        kind, _ = reference.verdict_of(columns.text().encode())
         advised = Advised(columns, columns.without_fences().eased(), prices)
         mended = Advised(columns.eased(), columns.without_fences(), prices)
     except model.Fault as fault:
@@ -227,28 +223,23 @@ class Places(reference.Problem):
     def __init__(self, columns, prices):
         self.harts = columns.harts()
         self.cells = {(hart.number, at): hart.cells[at] for hart in self.harts for at in hart.fences}
-        self.written, self.costs = tuple(cell.kind for cell in self.cells.values()), []
-        for (hart, at), own in zip(self.cells, self.written):
-            # what each kind costs that may stand in the place
-            hart, access = self.harts[hart], self.harts[hart].access_of(at)
-            slot = hart.slot(at + 1 if access is None else access)
-            enough = own if own in prices.offered else min(
-                (kind for kind in prices.offered if is_enough(kind, own)), key=lambda kind: prices.price[kind])
-            weaker = [kind for kind in prices.offered if model.PAIRS[kind] < model.PAIRS[own]]
-            costs = {kind: prices.at(slot, kind) for kind in weaker}
-            self.costs.append({None: 0, own: prices.at(slot, enough), **costs})
+        self.written = tuple(cell.kind for cell in self.cells.values())
         emptied = columns.changed(lambda cell: cell if cell.kind is None else cell.saying(EASED))
         test = model.test_of(emptied.text().encode())
         test.slots = lambda: list(self.cells)
         super().__init__(test, prices)
+        self.costs = [self.costs_at(self.harts[hart], at, own) for (hart, at), own in zip(self.cells, self.written)]
 
-    def options(self, at):
-        """What may stand in the place of this number, in the order of precedence."""
-        own, kinds = self.written[at], [kind for kind in [None, *model.KINDS] if kind in self.costs[at]]
-        return sorted(kinds, key=lambda kind: kind != own) if self.costs[at][own] else kinds
-
-    def price(self, at, kind):
-        return self.costs[at][kind]
+    def costs_at(self, hart, at, own):
+        """What may stand in the place of this fence, in the order of precedence, and what it costs."""
+        access, prices = hart.access_of(at), self.prices
+        slot = hart.slot(at + 1 if access is None else access)
+        enough = [own] if own in prices.offered else [kind for kind in prices.offered if is_enough(kind, own)]
+        weaker = [kind for kind in prices.offered if model.PAIRS[kind] < model.PAIRS[own]]
+        least = min(prices.at(slot, kind) for kind in enough)
+        costs = {None: 0, own: least, **{kind: prices.at(slot, kind) for kind in weaker}}
+        first = own if costs[own] else None
+        return {kind: costs[kind] for kind in [first, None, *model.KINDS] if kind in costs}
 
     def words(self, hart, at, advised):
         """What is said of the fence at this instruction, where this is advised in its place."""
@@ -322,7 +313,7 @@ def check_written(run, name, files, columns, changed):
     fences = columns.followed(changed)
 
     def shown(cell):
-        if not cell or cell.stays or cell not in fences:
+        if cell.stays or cell not in fences:
             return str(cell)
         return cell.label + " " * len(cell.label[:1]) + fences[cell].ljust(len(cell.bare))
 

@@ -8,16 +8,15 @@ import re
 
 import check_certificate as model
 import solve_reference as reference
-from litmus import Maker
+from litmus import made_test
 from running import EXAMPLES, compact, read, rows, rvfence
 
-ONES = model.prices_of(b'{"rw,rw":1}')
 AT_ONCE = 200
 SIGNS = ["/\\", "/\\", "\\/"]                                           # that join two atoms of one place
 STATUS = {"allowed": 1, "fault": 2, "vacuous": 4, "forbidden": 0}     # the first kind that is there gives the status
-ORDERED = re.compile(r"in program order|P(\d):(\d+) comes to memory before P(\d):(\d+)")
-COUNTED = re.compile(r"1 contradiction|([2-9]|[1-9]\d+) contradictions")
-FORBIDDEN = re.compile(f"{COUNTED.pattern}|no sources for its loads|no candidate shows it")
+ORDERED = r"in program order|P(\d):(?P<first>\d+) comes to memory before P\1:(?P<second>\d+)"
+COUNTED = r"1 contradiction|([2-9]|[1-9]\d+) contradictions"
+FORBIDDEN = f"{COUNTED}|no sources for its loads|no candidate shows it"
 
 
 def compare_solve(run, name, data, prices):
@@ -48,7 +47,7 @@ def check_solve(run):
     for name, prices in itertools.product(rows("known", "tests"), rows("known", "prices")):
         compare_solve(run, f"{name} at {prices}", read(f"{EXAMPLES}/{name}.litmus"), prices.encode())
     for number in run.numbers():
-        compare_solve(run, f"made test {number}", *Maker(number).make())
+        compare_solve(run, f"made test {number}", *made_test(number))
 
 
 def object_of(lines):
@@ -90,7 +89,7 @@ def check_states(run):
     must be an execution that ends in the state above it, and `order` must say of it what the condition does."""
     count = 0
     for number in run.numbers():
-        data, is_all = Maker(number).make()[0], number % 2 == 1
+        data, is_all = made_test(number)[0], number % 2 == 1
         name = run.file(f"made{number}", data)
         try:
             listing = reference.Listing(data, is_all)
@@ -105,7 +104,7 @@ def check_states(run):
 
 
 def made(number):
-    text = Maker(number).make()[0].decode()
+    text = made_test(number)[0].decode()
     if number % 2:
         return text.encode()
     chance = random.Random(f"test {number}")
@@ -123,7 +122,7 @@ def made(number):
 def why_vacuous(test):
     """The words for the first atom that nothing makes true."""
     names, runs = {address: name for name, address in test.addresses.items()}, model.all_runs(test)
-    stored = frozenset().union(*[reference.stores_of(run) for run in itertools.chain.from_iterable(runs)])
+    stored = {store for run in itertools.chain(*runs) for store in run.stores.values()}
 
     def blamed(condition, wanted):
         match condition:
@@ -153,8 +152,7 @@ def compare_objects(run, names, said):
     width = max(map(len, names))
     for name, line, thing in zip(names, said.out.splitlines(), objects):
         verdict, why = thing["verdict"], thing["why"]
-        wanted = line[width + 2:]
-        run.expect(f"{name} with --json", wanted, why if verdict == "fault" else f"{verdict:9}  {why}")
+        run.expect(f"{name} with --json", line[width + 2:], why if verdict == "fault" else f"{verdict:9}  {why}")
         more = {"allowed": ["witness"], "fault": ["column", "line", "message"]}.get(verdict, [])
         run.expect(f"the keys of {name}", sorted(["file", "verdict", "why", *more]), list(thing))
         if verdict == "allowed":
@@ -172,22 +170,16 @@ def compare_test(run, numbers):
     lines, kinds = said.out.splitlines(), collections.Counter()
     width = max(map(len, names))
     for number, name, text, line in zip(numbers, names, texts, [*lines, *[""] * len(names)]):
-        try:                    # what is to be said of the test, and the words for it, or which form they have
-            kind, problem = reference.verdict_of(text, ONES)
+        try:                    # which verdict there is to be, and the form of the words for it
+            kind, problem = reference.verdict_of(text)
             # where some candidate shows the outcome, a contradiction is needed to rule it out
-            forbidden = COUNTED if problem.candidates else FORBIDDEN
-            wanted = kind, why_vacuous(problem.test) if kind == "vacuous" else {"allowed": ORDERED}.get(kind, forbidden)
+            forms = {"allowed": ORDERED, "forbidden": COUNTED if problem.candidates else FORBIDDEN}
+            wanted = f"{kind:9}  (?:{forms.get(kind) or re.escape(why_vacuous(problem.test))})"
         except model.Fault as fault:
-            wanted = "fault", str(fault).removeprefix("fault ")
-        kinds[wanted[0]] += 1
-        kind, _, words = line[width + 2:].partition(" ")
-        words = words if kind == "fault" else words.lstrip()
-        is_right = (kind, words) == wanted
-        if kind == wanted[0] and not isinstance(wanted[1], str):
-            found = wanted[1].fullmatch(words)
-            is_ordered = kind == "allowed" and found and found[1]
-            is_right = found and (not is_ordered or found[1] == found[3] and int(found[4]) < int(found[2]))
-        is_right = is_right and line.startswith(f"{name:{width}}  ")
+            kind, wanted = "fault", re.escape(str(fault))
+        kinds[kind] += 1
+        found = re.fullmatch(re.escape(f"{name:{width}}  ") + wanted, line)
+        is_right = found and not (kind == "allowed" and found[1] and int(found["first"]) <= int(found["second"]))
         run.check(f"made test {number}", is_right, f"{text.decode()}wanted: {wanted}, found: {line}")
     status = next(STATUS[kind] for kind in STATUS if kinds[kind])
     run.expect("how many lines", len(names) + 1, len(lines))

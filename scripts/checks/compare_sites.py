@@ -24,12 +24,11 @@ import check_certificate as model
 import solve_reference as reference
 from checks.compare_audit import STATUS, Columns, fence_of, is_enough, words_of
 from checks.compare_check import compare_mangled, judge_both
-from litmus import Maker
+from litmus import made_test, rows_of
 from running import EXAMPLES, Said, read, rvfence, side_by_side, written
 
 NAMES = ["lock", "un_lock", "wmb", "r2d"]
 LINUX = f"{EXAMPLES}/prices-linux.json"
-ONES = model.prices_of(b'{"rw,rw":1}')
 MOST_PLACEMENTS, MOST_RUNS = 130, 300
 POOL = 20           # ten questions have so many tests in common, with other labels
 MANGLED = 6         # certificates that are made of each
@@ -38,7 +37,7 @@ MANGLED = 6         # certificates that are made of each
 @functools.lru_cache(POOL)
 def made_columns(number):
     """The test of a number, or of another where its harts have so many runs that a list would take long."""
-    text = Maker(number).make()[0]
+    text = made_test(number)[0]
     try:
         is_small = sum(map(len, model.all_runs(model.test_of(text)))) <= MOST_RUNS
     except model.Fault:
@@ -56,40 +55,32 @@ class Test:
         columns = [[*map(str, column)] for column in made.cells]
         # a label to which no branch goes would name a site
         self.columns = [column if any(cell.endswith(",OUT") for cell in column) else column[:-1] for column in columns]
-        spots = [(hart, at) for hart, column in enumerate(self.columns) for at in range(len(column))]
+        self.spots = [(hart, at) for hart, column in enumerate(self.columns) for at in range(len(column))]
         density = chance.choice([0.4, 0.8, 1, 1, 1])
-        self.places = {spot: chance.choice(names) for spot in spots if chance.random() < density}
+        self.places = {spot: chance.choice(names) for spot in self.spots if chance.random() < density}
         self.allows = functools.cache(self.allows)
 
-    def text(self, change):
-        """The test with what `change` makes of the cells of each hart."""
-        columns = [list(itertools.chain.from_iterable(change(hart, at, cell) for at, cell in enumerate(column)))
-                   for hart, column in enumerate(self.columns)]
-        rows = [" | ".join(row) + " ;" for row in itertools.zip_longest(*columns, fillvalue="")]
-        return "\n".join([*self.above, *rows, self.condition, ""])
+    def text(self, kinds, numbers=None):
+        """With FENCEs of these kinds, by place, and where there are numbers with labels of sites in front of them."""
+        columns = [[] for _ in self.columns]
+        for hart, at in self.spots:
+            name, kind, cell = self.places.get((hart, at), ":"), kinds.get((hart, at)), self.columns[hart][at]
+            label = f"{name}_{next(numbers)}: " if numbers and ":" not in name else ""
+            columns[hart] += [f"{label}{fence_of(kind)}", cell] if kind else [f"{label}{cell}"]
+        return "\n".join([*self.above, *rows_of(columns), self.condition, ""])
 
     def labelled(self, kinds=()):
         """With labels: of each site by numbers of its copies; and behind them FENCEs of these kinds, by place."""
-        numbers = itertools.count()
-
-        def change(hart, at, cell):
-            name, kind = self.places.get((hart, at), ":"), dict(kinds).get((hart, at))
-            first, *rest = [fence_of(kind), cell] if kind else [cell]
-            return [first if ":" in name else f"{name}_{next(numbers)}: {first}", *rest]
-
-        return self.text(change)
+        return self.text(dict(kinds), itertools.count())
 
     def fenced(self, kinds):
         """With FENCEs of these kinds, by the names of sites, but for one behind which no instruction stands."""
-        def change(hart, at, cell):
-            kind = kinds.get(self.places.get((hart, at)))
-            return [fence_of(kind), cell] if kind and not cell.endswith(":") else [cell]
-
-        return self.text(change)
+        return self.text({(hart, at): kinds.get(name) for (hart, at), name in self.places.items()
+                          if not self.columns[hart][at].endswith(":")})
 
     def allows(self, *kinds):
         """Is the outcome allowed with these fences, each a name and a kind?"""
-        return bool(reference.Problem(model.test_of(self.fenced(dict(kinds)).encode()), ONES).live)
+        return bool(reference.Problem(model.test_of(self.fenced(dict(kinds)).encode())).live)
 
     def is_allowed(self, kinds):
         """The same by all sites, of which only those count that the test has."""
@@ -137,12 +128,8 @@ class Question:
     def answer(self):
         """The first of the cheapest placements that forbid all outcomes, by the names of sites, or None."""
         ways = itertools.product([None, *self.prices], repeat=len(self.names))
-        tests = list(dict.fromkeys(self.tests))
-        for placed in sorted((dict(zip(self.names, kinds)) for kinds in ways), key=self.cost):
-            if not any(test.is_allowed(placed) for test in tests):
-                return placed
-            tests.sort(key=lambda test: not test.is_allowed(placed))        # those that allow theirs come first
-        return None
+        cheapest_first = sorted((dict(zip(self.names, kinds)) for kinds in ways), key=self.cost)
+        return next((it for it in cheapest_first if not any(test.is_allowed(it) for test in self.tests)), None)
 
     def lines(self, placed):
         fences = [(f"fence {name.replace(':', ' ')}" if self.is_alone and ":" in name else f"site {name}", kind)
@@ -205,7 +192,7 @@ class Audited:
         best, names, cost = self.best, self.question.names, self.question.cost
         is_same = all(len(kinds) == 1 for kinds in self.kinds.values())
         own = {name: next(iter(kinds)) for name, kinds in self.kinds.items()} if is_same else None
-        verdicts = {reference.verdict_of(text.encode(), ONES)[0] for text in self.texts.values()}
+        verdicts = {reference.verdict_of(text.encode())[0] for text in self.texts.values()}
         verdict = next(it for it in ["allowed", "forbidden", "vacuous"] if it in verdicts)
         first = f"{verdict} as written, {'copies differ' if own is None else cost(own)}; "
         if best is None:

@@ -45,7 +45,7 @@ class Checks:
         self.test, witness = written(f"{folder}/sb.litmus", SB), written(f"{folder}/witness.json", SB_WITNESS)
         self.hinder = compiled("checks/hinder.c", folder, "-shared", "-fPIC")
         self.certificate = f"{folder}/certificate.json"
-        self.certify(self.certificate)
+        self.run(self.certifying(self.certificate))
         self.whole, self.commands = {"kept.json": read(self.certificate)}, {}
         paths = {"TEST": self.test, "WITNESS": witness, "PRICES": self.prices, "CERTIFICATE": self.certificate}
         # each command with its words, and what it says
@@ -57,9 +57,14 @@ class Checks:
         """What the program says. Signals do what they do in a shell."""
         return ran([self.program, *words], **options)
 
-    def certify(self, path, **options):
-        """What the program says that writes the certificate to this path."""
-        return self.run(["solve", self.test, self.prices, "--cert", path], **options)
+    def hindered(self, words, call, error, count=1000, name="", **options):
+        """What it says where the first so many of these calls, at files of this name, fail with this error."""
+        settings = {"HINDER_CALL": call, "HINDER_ERROR": str(error), "HINDER_COUNT": str(count), "HINDER_NAME": name}
+        return self.run(words, env={**os.environ, **settings, "LD_PRELOAD": self.hinder}, **options)
+
+    def certifying(self, path):
+        """The words by which it writes the certificate to this path."""
+        return ["solve", self.test, self.prices, "--cert", path]
 
 
 @contextlib.contextmanager
@@ -120,8 +125,7 @@ def check_streams(checks):
             checks.expect(f"{command}: {stream} is {path}, opened by {how}", wanted, checks.run(line, **{stream: file}))
             os.close(file)
         for size in (0, 1, 20, 8192, 100_000):
-            settings = hindering(checks, "end", errno.ECONNRESET, name="pipe:")
-            found = checks.run(reading, stdin=SB.ljust(size)[:size], env=settings)
+            found = checks.hindered(reading, "end", errno.ECONNRESET, name="pipe:", stdin=SB.ljust(size)[:size])
             checks.expect(f"{command}: a connection that breaks after {size} bytes", failed, found)
         for is_ignored in (False, True):
             end, writing = os.pipe()
@@ -162,7 +166,8 @@ def check_certificates(checks):
     cases += [(closed, size, True) for closed in STREAMS for size in (0, 1, room - 1, room)]
     for (closed, size, is_ignored), kept in itertools.product(cases, (OLD, NONE)):
         with folder_with(checks, kept) as (folder, path):
-            said = checks.certify(path, preexec_fn=before(*closed, size=size, is_ignored=is_ignored))
+            prepare = before(*closed, size=size, is_ignored=is_ignored)
+            said = checks.run(checks.certifying(path), preexec_fn=prepare)
             answer, left = (SB_ANSWER, checks.whole) if size == room else (UNWRITTEN, kept)
             if closed:
                 said, answer = said.status, 2 if 1 in closed else answer.status
@@ -195,15 +200,14 @@ class Held:
 def check_two_runs(checks):
     """Two runs at once that write their certificates to one path, each held at each of its calls, and let go before
     the other or behind it. Both say what they say alone; one certificate stands there whole, and nothing beside it."""
-    runs = []
-    for test in (checks.test, f"{EXAMPLES}/MP.litmus"):
-        said = checks.run(["solve", test, checks.prices, "--cert", f"{checks.folder}/alone.json"])
-        runs.append((test, said, read(f"{checks.folder}/alone.json")))
-    wanted, wholes = [said for _, said, _ in runs], [{"kept.json": whole} for _, _, whole in runs]
+    tests, wanted, wholes = (checks.test, f"{EXAMPLES}/MP.litmus"), [], []
+    for test in tests:
+        wanted.append(checks.run(["solve", test, checks.prices, "--cert", f"{checks.folder}/alone.json"]))
+        wholes.append({"kept.json": read(f"{checks.folder}/alone.json")})
     checks.check("the certificates differ", wholes[0] != wholes[1])
     for calls, kept, order in itertools.product(itertools.product(HELD, HELD), (OLD, NONE), ((0, 1), (1, 0))):
         with folder_with(checks, kept) as (folder, _):
-            both = [Held(checks, folder, test, call) for (test, _, _), call in zip(runs, calls)]
+            both = [Held(checks, folder, test, call) for test, call in zip(tests, calls)]
             said = {at: both[at].let_go() for at in order}
             name = f"two runs held at {' and '.join(calls)}, {kept} there, run {order[0]} goes on first"
             checks.expect(name, wanted, [said[0], said[1]])
@@ -221,7 +225,7 @@ def check_ended_runs(checks):
             left, name = contents(folder), f"signal {number} before {call}, {kept} there"
             certificate = {it: left[it] for it in left if it != "kept.json.part"}
             checks.check(name, certificate in (kept, checks.whole), left)
-            checks.expect(f"{name}: a later run", SB_ANSWER, checks.certify(path))
+            checks.expect(f"{name}: a later run", SB_ANSWER, checks.run(checks.certifying(path)))
             checks.expect(f"{name}: a later run's certificate", left | checks.whole, contents(folder))
 
 
@@ -241,37 +245,29 @@ def check_modes(checks):
                 found = (held.let_go(), contents(folder), mode_of(path))
                 checks.expect(f"mode {mode:o} at mask {mask:o}", (SB_ANSWER, checks.whole, oct(mode)), found)
         path = f"{checks.folder}/new.json"
-        checks.certify(path)
+        checks.run(checks.certifying(path))
         checks.expect(f"a new file at mask {mask:o}", oct(0o666 & ~mask), mode_of(path))
         os.unlink(path)
     os.umask(0o022)
     with folder_with(checks, OLD) as (folder, path):
         os.chmod(path, 0o640)
-        settings = hindering(checks, "fchmod", errno.EPERM, name=folder)
-        found = (checks.certify(path, env=settings), contents(folder), mode_of(path))
+        said = checks.hindered(checks.certifying(path), "fchmod", errno.EPERM, name=folder)
+        found = (said, contents(folder), mode_of(path))
         checks.expect("a mode that can't be given", (SB_ANSWER, checks.whole, oct(0o640)), found)
-
-
-def hindering(checks, call, error, count=1000, name=""):
-    """The settings of a run in which the first so many of these calls, at files of this name, fail with this error."""
-    return {**os.environ, "HINDER_CALL": call, "HINDER_ERROR": str(error), "HINDER_COUNT": str(count),
-            "HINDER_NAME": name, "LD_PRELOAD": checks.hinder}
 
 
 def check_interrupted(checks):
     """A call that a signal interrupts is made again, once or some times in a row. Other errors at it are faults."""
     for command, (words, answer) in checks.commands.items():
         for call, count in itertools.product(("open", "read", "write"), (1, 3, 1000)):
-            found = checks.run(words, env=hindering(checks, call, errno.EINTR, count))
+            found = checks.hindered(words, call, errno.EINTR, count)
             checks.expect(f"{command}: {call} is interrupted {count} times", answer, found)
-        found = checks.run(words, env=hindering(checks, "write", errno.EIO, 1))
-        checks.expect(f"{command}: a write that fails", UNWRITTEN, found)
-        found = checks.run(words, env=hindering(checks, "read", errno.EIO, 1, os.path.basename(words[1])))
+        checks.expect(f"{command}: a write that fails", UNWRITTEN, checks.hindered(words, "write", errno.EIO, 1))
+        found = checks.hindered(words, "read", errno.EIO, 1, os.path.basename(words[1]))
         checks.expect(f"{command}: a read that fails", unread(words[1], UNREAD), found)
     for call in ("open", "write", "fchmod"):
         path = written(f"{checks.folder}/interrupted.json", "old")
-        settings = hindering(checks, call, errno.EINTR, 3, "interrupted.json")
-        found = (checks.certify(path, env=settings), read(path))
+        found = (checks.hindered(checks.certifying(path), call, errno.EINTR, 3, "interrupted.json"), read(path))
         checks.expect(f"a certificate whose {call} is interrupted", (SB_ANSWER, checks.whole["kept.json"]), found)
 
 

@@ -4,12 +4,9 @@
  * the first one, until a signal has it go on. And it refuses the request for memory of number REFUSE_AT (from 1), and
  * where REFUSE_COUNT names a file, it writes there how many requests came, over all threads in their order. */
 #define _GNU_SOURCE
-#include <dlfcn.h>
 #include <errno.h>
-#include <fcntl.h>
 #include <limits.h>
 #include <signal.h>
-#include <stdarg.h>
 #include <stdatomic.h>
 #include <stdio.h>
 #include <stdlib.h>
@@ -49,6 +46,7 @@ HINDERED(int, fchmod, (int file, mode_t mode), name_of(file), file, mode)
 HINDERED(ssize_t, write, (int file, const void *bytes, size_t count), name_of(file), file, bytes, count)
 HINDERED(int, rename, (const char *from, const char *to), from, from, to)
 HINDERED(int, unlink, (const char *path), path, path)
+HINDERED(int, open, (const char *path, int flags, mode_t mode), path, path, flags, mode) // the mode may not be given
 HINDERED(int, statx, (int folder, const char *path, int flags, unsigned mask, struct statx *found), path, folder, path,
          flags, mask, found)
 
@@ -59,14 +57,6 @@ ssize_t read(int file, void *bytes, size_t count) {
 
 ssize_t __write(int file, const void *bytes, size_t count) { return write(file, bytes, count); }
 
-int open(const char *path, int flags, ...) {
-    va_list more;
-    va_start(more, flags);
-    int mode = flags & O_CREAT ? va_arg(more, int) : 0;
-    va_end(more);
-    return is_failing("open", path) ? -1 : (int)syscall(SYS_openat, AT_FDCWD, path, flags, mode);
-}
-
 static int is_refused(void) {
     const char *at = getenv("REFUSE_AT");
     long number = atomic_fetch_add(&requests, 1) + 1;
@@ -76,29 +66,25 @@ static int is_refused(void) {
     return 1;
 }
 
-// A function of the C library that answers `refused` where its request is the one to refuse.
-#define REFUSABLE(result, name, parameters, arguments, refused)      \
-    result name parameters {                                         \
-        static result(*_Atomic next) parameters;                     \
-        if (next == NULL)                                            \
-            next = (result(*) parameters)dlsym(RTLD_NEXT, #name);    \
-        return is_refused() ? refused : next arguments;              \
-    }
+// What the C library calls its own functions that find memory.
+void *__libc_malloc(size_t), *__libc_calloc(size_t, size_t), *__libc_realloc(void *, size_t);
+void *__libc_memalign(size_t, size_t);
 
-REFUSABLE(void *, malloc, (size_t size), (size), NULL)
-REFUSABLE(void *, calloc, (size_t count, size_t size), (count, size), NULL)
-REFUSABLE(void *, realloc, (void *old, size_t size), (old, size), NULL)
-REFUSABLE(void *, aligned_alloc, (size_t alignment, size_t size), (alignment, size), NULL)
-REFUSABLE(int, posix_memalign, (void **made, size_t alignment, size_t size), (made, alignment, size), ENOMEM)
+void *malloc(size_t size) { return is_refused() ? NULL : __libc_malloc(size); }
+void *calloc(size_t count, size_t size) { return is_refused() ? NULL : __libc_calloc(count, size); }
+void *realloc(void *old, size_t size) { return is_refused() ? NULL : __libc_realloc(old, size); }
+void *aligned_alloc(size_t alignment, size_t size) { return is_refused() ? NULL : __libc_memalign(alignment, size); }
+
+int posix_memalign(void **made, size_t alignment, size_t size) {
+    return is_refused() || (*made = __libc_memalign(alignment, size)) == NULL ? ENOMEM : 0;
+}
 
 __attribute__((destructor)) static void report(void) {
     const char *path = getenv("REFUSE_COUNT");
     long count = requests;
-    FILE *file = path == NULL ? NULL : fopen(path, "w");
-    if (file != NULL) {
-        fprintf(file, "%ld\n", count);
-        fclose(file);
-    }
+    int file = path == NULL ? -1 : (int)syscall(SYS_creat, path, 0600);
+    if (file >= 0)
+        dprintf(file, "%ld\n", count);
 }
 
 /* A program that may have threads ends by this, and no destructor is called. */

@@ -22,6 +22,7 @@ import tempfile
 from concurrent.futures import ProcessPoolExecutor
 
 from check_certificate import Judge, prices_of
+from checks.compare_check import FAULT, stored
 from running import EXAMPLES, PRICES, TOP, compact, expanded, program, ran, read, rows
 from solve_reference import READ, fault_of, read_witness
 
@@ -30,21 +31,14 @@ TOKENS_CHANGED, TESTS_COMPOSED = 3000, 6000
 MEBIBYTE, HUGE = 1024 * 1024, 100_000_000
 UTF8 = "fault F1 BadUtf8"
 TITLE = "fault F2 NotRiscv"
+SYNTAX = "fault F3 Syntax line %d"
 WITNESS = "fault F17 BadWitness"
-CERTIFICATE = "fault F18 BadCertificate"
-# What is said of a witness of the right form, and what `states` says of a log: what is seen and allowed, or its error.
-ANSWERED = re.compile("yes|no: .*")
-LOGGED = re.compile(r"(?s)SB: .*|error: log line \d+: expected .*")
 WHOLES = {name: read(f"{EXAMPLES}/{name}") for name in sorted(os.listdir(EXAMPLES)) if name.endswith(".litmus")}
-
-
-def syntax(line):
-    return f"fault F3 Syntax line {line}"
 
 
 def cut(text):
     """The fault of a test that ends too soon, in its last line. A line end at the end of the text begins none."""
-    return syntax(text.count(b"\n") + (not text.endswith(b"\n")))
+    return SYNTAX % (text.count(b"\n") + (not text.endswith(b"\n")))
 
 
 def patterns(group, parts=()):
@@ -68,7 +62,7 @@ def part(name, text):
 def of_table(group):
     for line in rows("hostile", group):
         wanted, form, name, text = line.split(" | ", 3)
-        yield name, part(form, expanded(text)), {"READ": READ, "LOGGED": LOGGED}.get(wanted, wanted)
+        yield name, part(form, expanded(text)), {"READ": READ, "LOGGED": ANSWERS["LOGGED"]}.get(wanted, wanted)
 
 
 def words(group):
@@ -139,28 +133,21 @@ def bytes_changed():
 WORDS, VALUES = words("words"), words("values")
 
 
-def one_changed(chance, parts):
-    """The parts with one left out, put in, doubled, replaced, or swapped with another."""
-    at, word = chance.randrange(len(parts)), chance.choice(WORDS)
-    way = chance.randrange(5)
-    if way < 4:
-        instead = ([], [word, " ", parts[at]], [parts[at], " ", parts[at]], [word])[way]
-        return [*parts[:at], *instead, *parts[at + 1:]]
-    other = chance.randrange(len(parts))
-    parts = list(parts)
-    parts[at], parts[other] = parts[other], parts[at]
-    return parts
-
-
 def tokens_changed():
-    """The examples with up to three of their tokens changed, the same ones each time."""
+    """The examples with up to three of their tokens changed, the same ones each time: left out, put in, doubled,
+    replaced, or swapped with another."""
     chance = random.Random(1)
     wholes = [(name, without_documentation(whole).decode("ascii")) for name, whole in WHOLES.items()]
     for number in range(TOKENS_CHANGED):
         name, whole = wholes[number % len(wholes)]
         parts = re.findall(r"[A-Za-z0-9_.+]+|/\\|\\/|.|\n", whole)
         for _ in range(1 + number // len(wholes) % 3):
-            parts = one_changed(chance, parts)
+            at, word, way = chance.randrange(len(parts)), chance.choice(WORDS), chance.randrange(5)
+            if way < 4:
+                parts[at:at + 1] = ([], [word, " ", parts[at]], [parts[at], " ", parts[at]], [word])[way]
+            else:
+                other = chance.randrange(len(parts))
+                parts[at], parts[other] = parts[other], parts[at]
         text = "".join(parts).encode("ascii")
         yield f"change {number} of {name} to {text!r}", text, fault_of(text)
 
@@ -227,17 +214,17 @@ def floods():
             text = before + sign * ((MEBIBYTE - len(before) - len(after)) // len(sign)) + after
             line = before.count(b"\n") + 1              # in which the flood begins
             known = {"READ": READ, "UTF8": UTF8, "instr": f"fault F4 UnknownInstr line {line}", "end": cut(text)}
-            yield f"{sign!r} {place}", text, known.get(answer) or syntax(line + int(answer))
+            yield f"{sign!r} {place}", text, known.get(answer) or SYNTAX % (line + int(answer))
 
 
-def noise():
+def noise(wanted=UTF8, what=""):
     """A mebibyte of bytes by chance, bare and behind a good beginning. Somewhere among them UTF-8 is broken."""
     chance = random.Random(3)
     for number in range(4):
         bytes_by_chance = chance.randbytes(MEBIBYTE)
-        yield f"noise {number}", bytes_by_chance, UTF8
+        yield f"noise {number}{what}", bytes_by_chance, wanted
         for place, (before, _) in PLACES.items():
-            yield f"noise {number} {place}", (before + bytes_by_chance)[:MEBIBYTE], UTF8
+            yield f"noise {number} {place}{what}", (before + bytes_by_chance)[:MEBIBYTE], wanted
 
 
 def samples():
@@ -302,11 +289,10 @@ def witnesses():
 
     def answer(text):
         witness = read_witness(text)
-        return ANSWERED if witness and len(witness["choices"]) == 2 else WITNESS
+        return ANSWERS["ANSWERED"] if witness and len(witness["choices"]) == 2 else WITNESS
 
     yield from changed("a witness", whole, TELLING, answer)
-    for name, text, _ in noise():
-        yield f"{name} for a witness", text, WITNESS
+    yield from noise(WITNESS, " for a witness")
     for name, text, wanted in flooded("flooded witnesses"):
         # a name with a number of nines is one, and no operation has it
         yield name, text, "no: order" if name == "b'9' for a number" else wanted
@@ -315,7 +301,7 @@ def witnesses():
         yield f"{text!r} in a name", whole.replace(b"P0:2", b"P0:2" + text), WITNESS
 
 
-JUDGE = Judge([f"{EXAMPLES}/SB.litmus"], f"{EXAMPLES}/prices.json")
+JUDGE = Judge([f"{EXAMPLES}/SB.litmus"], PRICES)
 
 
 def checked(text):
@@ -324,14 +310,9 @@ def checked(text):
     return (said.out or said.err).rstrip("\n")
 
 
-def stored(name):
-    """A certificate of SB as text."""
-    return compact(json.loads(read(f"{EXAMPLES}/certificates/{name}.json")))
-
-
 def changed_certificates(what, name, telling):
     """Changes of a certificate, and it with much of one thing, which may take no more time or memory than the bytes."""
-    good = stored(name)
+    good = compact(stored(name))
     yield from changed(what, good.encode(), telling, checked)
     large = ((f"{what} with {it}", text) for it, text, _ in rewritten(f"large certificates {name}", good))
     yield from answered(checked, large)
@@ -340,9 +321,8 @@ def changed_certificates(what, name, telling):
 def certificates():
     """A certificate for SB, changed, and what is none."""
     yield from changed_certificates("a certificate", "SB", b'"[]{,: 0129w\xff')
-    for name, text, _ in noise():
-        yield f"{name} for a certificate", text, CERTIFICATE
-    yield from rewritten("surrogates in certificates", stored("SB"))
+    yield from noise(FAULT, " for a certificate")
+    yield from rewritten("surrogates in certificates", compact(stored("SB")))
     yield from flooded("flooded certificates")
 
 
@@ -353,14 +333,8 @@ def refutations():
 
 def huge_certificates():
     """Certificates of SB of 100 MB, most of them by one part again and again."""
-    yield from rewritten("huge certificates", stored("SB"))
+    yield from rewritten("huge certificates", compact(stored("SB")))
     yield from flooded("flooded huge certificates", HUGE)
-
-
-def group(name):
-    """The files of the group of this name, which is made here or stands in the table."""
-    made = globals().get(name.replace(" ", "_"))
-    return made() if made else of_table(name)
 
 
 # Seconds of processor time, and bytes: for files up to a mebibyte, and for huge ones.
@@ -370,9 +344,11 @@ TIMES = 3                           # that one may run to be within the seconds
 PARTS_SAID = patterns("parts of what is said")
 ANSWERS = {name: re.compile(text) for name, text in patterns("answers", PARTS_SAID).items()}
 SAID = {key: re.compile(text, re.A) for key, text in patterns("said", PARTS_SAID).items()}
-# How the program gets the files of a group: what stands before the names, its words, and the answer in place of READ.
-Use = collections.namedtuple("Use", "group name words read")
-USES = [Use(group, name, words.split(), read) for groups, name, words, read
+ERRORS = {name: re.compile(text, re.A) for name, text in patterns("errors", PARTS_SAID).items()}
+# How the program gets the files of a group: what stands before the names, its words, the answer in place of READ, and
+# which errors may come.
+Use = collections.namedtuple("Use", "group name words read error")
+USES = [Use(group, name, words.split(), read, error) for groups, name, words, read, error
         in (row.split(" | ") for row in rows("hostile", "uses")) for group in groups.split(", ")]
 
 
@@ -396,7 +372,7 @@ def timed(text, words, most):
     return said, used.ru_utime + used.ru_stime - before.ru_utime - before.ru_stime, memory
 
 
-def run(name, text, wanted, words, limits):
+def run(name, text, wanted, words, error, limits):
     """Of a run with this input and words its name, what is wrong with it, its seconds and its bytes. What takes too
     long runs again, up to twice, as a processor that much else shares may be many times as slow for a while."""
     for _ in range(TIMES):
@@ -404,11 +380,13 @@ def run(name, text, wanted, words, limits):
         if seconds <= limits[0]:
             break
     form, answer = SAID.get(f"{words[0]} {said.status}"), (said.out or said.err.partition("\n")[0]).rstrip("\n")
-    if said.status == 2 and not (said.out and form):
-        has_ended_well = not said.out and is_explained(words, said)
+    if said.status == 2 and words[0] != "test" and not (said.out and form):
+        has_ended_well = not said.out and ERRORS[error].fullmatch(said.err)
     else:
+        # `test` says the fault of a file on standard output
+        fault = re.match(r"stdin  (fault F(?:[1-9]|20) [^\n]+\n)", said.out) if words[0] == "test" else None
         has_ended_well = form and form.fullmatch(said.out) and (
-            is_explained(words, said) if words[0] == "test" else not said.err)
+            ERRORS[error].fullmatch(fault[1] + said.err) if fault else not said.err)
     end = "" if has_ended_well else f"status {said.status} with {said.out[:80]!r} and {said.err[:200]!r}"
     if words[0] == "test":                      # what is said of the file
         answer = answer.split("\n")[0].removeprefix("stdin  ")
@@ -421,42 +399,14 @@ def run(name, text, wanted, words, limits):
     return name, "; ".join(filter(None, wrong)), seconds, memory
 
 
-def are_messages(fault, text):
-    """Is the text a message of this fault, and at most nine of others (docs/FORMAT.md, section 14)?"""
-    if fault == "fault F20 ReadFault":
-        return SAID["unread"].fullmatch(text)
-    line = re.search(r" line (\d+)$", fault)
-    place, source = r":%s:\d+: " % (line[1] if line else r"\d+"), r"\n  [ -~]{0,100}\n {2,62}\^ [ -~]+\n"
-    fault = re.escape(fault)
-    further = rf"[ -~]*(:\d+:\d+: fault F[3-8] [ -~]+{source}|: fault F9 [ -~]+\n  [ -~]+\n)"
-    return re.fullmatch(f"[ -~]*({place}{fault}{source}|: {fault}\n  [ -~]+\n)({further}){{0,9}}", text)
-
-
-def is_explained(words, said):
-    """Is a run with these words that a fault ended, or of `test` the fault of its file, explained where it should be?
-    Elsewhere there is no message, as of F13 to F15 of a file of `test`."""
-    if words[0] == "test":
-        found = re.match(r"stdin  (fault F(?:[1-9]|20) [^\n]+)\n", said.out)
-        return are_messages(found[1], said.err) if found else not said.err
-    line, _, message = said.err.partition("\n")
-    if "--log" in words and SAID["log"].fullmatch(line):
-        return not message
-    if not re.fullmatch(r"fault F\d+ [^\n]+", line):
-        return False
-    if words[0] == "states" and line.startswith("fault F3 ") and not message:
-        return True     # of an item of `locations`
-    is_told = words[0] in ("audit", "states") or "-v" in words or line == "fault F20 ReadFault" and "-q" not in words
-    return are_messages(line, message) if is_told else not message
-
-
 def run_group(use):
     """The runs of a group, all of whose files are fed to the program. Those of `fences` are words."""
-    runs = []
-    for name, text, wanted in group(use.group):
+    runs, made = [], globals().get(use.group.replace(" ", "_"))
+    for name, text, wanted in made() if made else of_table(use.group):
         text, words = (text, use.words) if isinstance(text, bytes) else (b"", [*use.words, *text])
         is_item = use.read == "LISTED" and name.endswith(" in locations")
         answer = ANSWERS["LISTED_ITEMS" if is_item else use.read] if wanted == READ else wanted
-        runs.append(run(f"{use.name} {name}".strip(), text, answer, words, LIMITS))
+        runs.append(run(f"{use.name} {name}".strip(), text, answer, words, use.error, LIMITS))
     return runs
 
 
@@ -471,7 +421,7 @@ def runs(is_huge):
     words = ["check", f"{EXAMPLES}/SB.litmus", PRICES, "/dev/stdin"]
     for name, text, wanted in huge_certificates():
         with ProcessPoolExecutor(1, initializer=begin) as pool:
-            found = pool.submit(run, f"100 MB of {name}", text, wanted, words, HUGE_LIMITS).result()
+            found = pool.submit(run, f"100 MB of {name}", text, wanted, words, "unread", HUGE_LIMITS).result()
         print(f"{found[0]}: {found[2]:.2f} seconds, {found[3] / 1e6:.0f} MB", flush=True)
         yield found
 

@@ -15,7 +15,7 @@ import time
 import check_certificate as model
 from bench_tests import votes
 from running import (EXAMPLES, LONGEST, PRICES, TOP, compact, compiled, program, ran, ran_on_terminal, rvfence,
-                     side_by_side, stored_answers, tests_of_examples, text_of, transcript, written)
+                     side_by_side, stored_answers, tests_of_examples, text_of, written)
 from solve_reference import YES
 
 FOLDER = f"{TOP}/scripts/transcripts"
@@ -30,38 +30,34 @@ ALL_TESTS = [*tests_of_examples(), *glob.glob(f"{EXAMPLES}/tests/*.litmus")]
 
 def blocks_of(path):
     """The blocks of a transcript: of each its name, its command and what is printed."""
-    text = re.sub("(?m)^## .*\n", "", text_of(path)).strip("\n")
-    for block in text.split("\n\n"):
+    for block in re.sub("(?m)^## .*\n", "", text_of(path)).strip("\n").split("\n\n"):
         name, command, wanted = block.split("\n", 2)
         yield name.removeprefix("# "), command.removeprefix("$ "), wanted
 
 
-class Transcripts:
-    """A run, with the examples in its folder, and the program where it is wanted. Commands call functions of a file."""
+def make_ready(checks):
+    """Puts the examples, and the program under the name that help prints, into the folder of the checks."""
+    os.mkdir(f"{checks.folder}/bin")
+    os.symlink(EXAMPLES, f"{checks.folder}/examples")
+    os.symlink(program(), f"{checks.folder}/bin/rvfence")
 
-    def __init__(self, run, seconds=LONGEST, functions=f"{FOLDER}/functions.sh", has_program=True):
-        self.folder, self.check, self.expect = run.folder, run.check, run.expect
-        self.seconds, self.functions = seconds, functions
-        os.mkdir(f"{self.folder}/bin")
-        os.symlink(EXAMPLES, f"{self.folder}/examples")
-        if has_program:                 # under the name that help prints
-            os.symlink(program(), f"{self.folder}/bin/rvfence")
 
-    def shell(self, command, own=None, **options):
-        """What a command says, for which `rvfence` is the program and $own a folder."""
-        environment = {**os.environ, "PATH": f"{self.folder}/bin:{os.environ['PATH']}", "own": own or self.folder}
-        options = {"cwd": self.folder, "env": environment, "seconds": self.seconds, **options}
-        return ran(["bash", "-c", command], **options)
+def shell(checks, command, own=None, **options):
+    """What a command says, for which `rvfence` is the program and $own a folder."""
+    environment = {**os.environ, "PATH": f"{checks.folder}/bin:{os.environ['PATH']}", "own": own or checks.folder}
+    return ran(["bash", "-c", command], env=environment, **options)
 
-    def check_block(self, block):
-        """Checks a block: in it a line of standard error stands behind `! `, and `! ...` for whatever is said there."""
-        name, command, wanted = block
-        with tempfile.TemporaryDirectory() as own:
-            said = self.shell(f"source {self.functions}\n{command}", own)
-        error = re.sub("(?m)^", "! ", said.err[:-1]) + "\n" if said.err else ""
-        if error and "\n! ...\n" in f"\n{wanted}":
-            error = "! ...\n"
-        self.expect(f"{name}: {command}", wanted, f"{said.out}{error}[status {said.status}]")
+
+def check_block(checks, block, functions=f"{FOLDER}/functions.sh", seconds=LONGEST):
+    """Checks a block: in it a line of standard error stands behind `! `, and `! ...` for whatever is said there. The
+    command calls functions of a file."""
+    name, command, wanted = block
+    with tempfile.TemporaryDirectory() as own:
+        said = shell(checks, f"source {functions}\n{command}", own, cwd=checks.folder, seconds=seconds)
+    error = re.sub("(?m)^", "! ", said.err[:-1]) + "\n" if said.err else ""
+    if error and "\n! ...\n" in f"\n{wanted}":
+        error = "! ...\n"
+    checks.expect(f"{name}: {command}", wanted, f"{said.out}{error}[status {said.status}]")
 
 
 def check_examples(checks):
@@ -69,7 +65,8 @@ def check_examples(checks):
     for path in glob.glob(f"{EXAMPLES}/answers/*.txt"):
         command, wanted = text_of(path).rstrip("\n").split("\n", 1)
         words = command.removeprefix("$ rvfence ").split()
-        checks.expect(path, wanted, transcript(rvfence(*words, *["-q"] * (words[0] == "solve"), cwd=EXAMPLES)))
+        said = rvfence(*words, *["-q"] * (words[0] == "solve"), cwd=EXAMPLES)
+        checks.expect(path, wanted, f"{said.out}{said.err}[status {said.status}]")
     for test in tests_of_examples():
         once = rvfence("place", test)
         checks.expect(f"{test} is answered", ("", 0), once[1:])
@@ -111,7 +108,7 @@ def check_documents(checks):
         # a command, and the lines up to the next one or to the end of its code block
         for command, wanted in re.findall(r"(?m)^\$ (.*)\n((?:(?!```|\$ ).*\n)*)", text_of(f"{TOP}/{document}")):
             if command != "./test":
-                said = checks.shell(f"exec 2>&1; {command.replace('/tmp/', f'{checks.folder}/')}", cwd=TOP)
+                said = shell(checks, f"exec 2>&1; {command.replace('/tmp/', f'{checks.folder}/')}", cwd=TOP)
                 checks.expect(f"{document}: {command}", wanted.rstrip("\n"), said.out.rstrip("\n"))
 
 
@@ -326,21 +323,21 @@ def check_progress(checks):
 def check(run):
     # the launcher builds the program, so that no progress comes between later checks
     ran([f"{TOP}/rvfence", "place", f"{EXAMPLES}/MP.litmus"], seconds=None)
-    checks = Transcripts(run)
+    make_ready(run)
     # all of scripts/transcripts/, with the files there
-    shutil.copytree(f"{FOLDER}/files", checks.folder, dirs_exist_ok=True)
-    side_by_side(checks.check_block, [it for path in sorted(glob.glob(f"{FOLDER}/*.txt")) for it in blocks_of(path)])
+    shutil.copytree(f"{FOLDER}/files", run.folder, dirs_exist_ok=True)
+    blocks = [block for path in sorted(glob.glob(f"{FOLDER}/*.txt")) for block in blocks_of(path)]
+    side_by_side(lambda block: check_block(run, block), blocks)
     for part in (check_examples, check_idioms, check_documents, check_answers, check_why, check_forbidden,
                  check_pictures, check_objects, check_messages, check_progress):
-        part(checks)
+        part(run)
 
 
 def check_launcher(run):
     """Runs the launcher in a small repository of its own, with a stand-in for `rt` that proves nothing and notes what
     it is asked for, by the commands of scripts/transcripts/launcher/launcher.txt."""
-    transcripts = Transcripts(run, functions=f"{FOLDER}/launcher/functions.sh", has_program=False)
     for block in blocks_of(f"{FOLDER}/launcher/launcher.txt"):
-        transcripts.check_block(block)
+        check_block(run, block, f"{FOLDER}/launcher/functions.sh")
 
 
 def check_limits(run):
@@ -349,7 +346,8 @@ def check_limits(run):
 
     With `--heavy` the runs of heavy.txt come too, which take minutes or gigabytes, and after each large run stand its
     milliseconds of processor time and its mebibytes at the peak."""
-    transcripts, names, notes = Transcripts(run, seconds=600), ["limits.txt"], written(f"{run.folder}/notes", "")
+    make_ready(run)
+    names, notes = ["limits.txt"], run.file("notes", "")
     os.symlink(f"{FOLDER}/limits", f"{run.folder}/limits")
     if run.options.heavy:
         names.append("heavy.txt")
@@ -358,7 +356,7 @@ def check_limits(run):
         stand_in = text_of(f"{FOLDER}/limits/rvfence").format(**parts)
         os.chmod(written(f"{run.folder}/bin/rvfence", stand_in), 0o755)
     for block in (block for name in names for block in blocks_of(f"{FOLDER}/limits/{name}")):
-        transcripts.check_block(block)
+        check_block(run, block, seconds=600)
         for line in text_of(notes).splitlines():
             nanoseconds, peak, _, words = line.split(" ", 3)
             if int(nanoseconds) > 20_000_000 or int(peak) > 8_000_000:
