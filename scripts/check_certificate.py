@@ -11,6 +11,7 @@ It prints `yes` and the answer, status 0; or `no: ` and the first reason of docs
 Bytes that are no certificate are `fault F18 BadCertificate` on standard error, and any other file that can't be read
 is another line there, with the fault that the program finds in it; both have status 2."""
 import collections
+import contextlib
 import functools
 import itertools
 import json
@@ -228,14 +229,19 @@ def number_of(token):
     return int(digits, base) if len(digits) <= 20 else 10 ** 20
 
 
-def narrow(columns):
-    """Puts accesses of a word in the place of those of 64 bits, where there are no others (FORMAT 22)."""
-    cells = [words for column in columns for words, _ in column]
-    starts = [next(at for at in itertools.count(0, 2) if words[at + 1:at + 2] != [':']) for words in cells]
-    accesses = [(words, at, is_access(words[at])) for words, at in zip(cells, starts) if at < len(words)]
-    if {access[2] for _, _, access in accesses if access} == {'d'}:
-        for words, at, access in accesses:
-            words[at] = access[1] + 'w' + access[3] if access else words[at]
+def narrow(columns, is_forced):
+    """Puts accesses of a word in the place of those of 64 bits, where there are no others (FORMAT 22), or it is forced.
+    Returns the line of the first access, row by row, that has another width than the first one."""
+    found = []
+    for words, lines in filter(None, itertools.chain(*itertools.zip_longest(*columns))):
+        at = next(at for at in itertools.count(0, 2) if words[at + 1:at + 2] != [':'])
+        if at < len(words) and (access := is_access(words[at])):
+            found.append((words, at, access, lines[at]))
+    others = [line for *_, access, line in found if access[2] != found[0][2][2]]
+    if is_forced or not others:
+        for words, at, access, _ in found:
+            words[at] = access[1] + 'w' + access[3]
+    return others[0] if others else None
 
 
 def joined(stack, right, signs):
@@ -256,7 +262,7 @@ class Test:
     """A test, which is read by its tokens. Where the form breaks, that is its fault; else the least of those noted is.
     It has code, words at the beginning, and the condition whose truth is the outcome."""
 
-    def __init__(self, text, line, last):
+    def __init__(self, text, line, last, has_one_width=False):
         self.tokens, self.lines, self.at = [], [], 0            # tokens, the line of each, and a place among them
         self.faults, self.has_bad_atom = [], False              # faults have a number and a line
         self.code = []              # of each hart its instructions
@@ -277,7 +283,7 @@ class Test:
         # the end, with what `peek` may see behind it; and before it the sign of a comment that isn't closed
         self.tokens += ['(*'] * (depth > 0) + [''] * 3
         self.lines += [last, last]
-        self.read()
+        self.read(has_one_width)
 
     def peek(self, ahead=0):
         """The token here, or the empty text at the end."""
@@ -401,9 +407,9 @@ class Test:
                 found = joined(stack, denied(*found), ('=>',))
             stack.append((sign, *found))
 
-    def read(self):
+    def read(self, has_one_width):
         entries, columns = list(self.entries()), self.columns()
-        narrow(columns)
+        self.other_width = narrow(columns, has_one_width)       # the line of an access, where not all have one width
         self.registers = [[0] * 32 for _ in columns]
         if self.accept('locations'):
             self.expect('[')
@@ -506,7 +512,14 @@ def test_of(data):
     block = re.compile(r'^[ \t\r]*\{', re.MULTILINE).search(text, title.end())
     start = block.start() if block else len(text)
     last = text.count('\n') + (not text.endswith('\n'))
-    return Test(text[start:], text.count('\n', 0, start) + 1, last)
+    form = text[start:], text.count('\n', 0, start) + 1, last
+    try:
+        return Test(*form)
+    except Fault as fault:
+        with contextlib.suppress(Fault):
+            if line := Test(*form, True).other_width:       # so it would be a test
+                fault = Fault('fault F24 BothWidths line %d' % line)
+        raise fault
 
 
 def truths(condition, of_atom):
