@@ -1,5 +1,5 @@
 pub mod ExactMade
 pub mod ExactSteps
 pub mod ExactRuns
-pub mod NoTest
+pub mod Refused
 pub mod OneTest

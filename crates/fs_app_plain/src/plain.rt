@@ -378,7 +378,7 @@ fn is_memory(fault: Fault) -> bool
 
 /// The test that the text reads as, once it is known to be the same with accesses of 64 bits, where it stands for one
 /// that has those. Nothing where the text is no test.
-#[tactic(auto, using(crate::proofs::NoTest::no_test))]
+#[tactic(auto, using(crate::proofs::Refused::reads_as_none))]
 fn checked_test(alloc: Global, text: &[u8], is_wide: bool) -> Result<Option<Test>, Unplain>
     ensures test { IfOk result (λ found. IfSome found IsTest) }
     ensures exact { OnOk result (is_wide ≡ true → IsExactText text.now) }

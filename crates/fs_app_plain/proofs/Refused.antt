@@ -92,7 +92,7 @@ reads_clean text t f h =
     in
     no_fault text t.name h.form h.syntax_of f h.utf8 h.title h.has_form each
 
-pub no_test : (text : List ℕ) (f : Fault) → (f ≢ Memory → IsTestFault text f) → f ≢ Memory → IsExactText text
-no_test text f known other =
+pub reads_as_none : (text : List ℕ) (f : Fault) → (f ≢ Memory → IsTestFault text f) → f ≢ Memory → IsExactText text
+reads_as_none text f known other =
     let fault = (known other).is in
     record { each = λ t h. absurd (reads_clean text t f h fault) }
