@@ -64,7 +64,7 @@ impl Plain {
 /// Why there is no such text.
 #[derive(Clone, Copy, Debug, Error)]
 pub enum Unplain {
-    #[error("line {line}: accesses of 64 bits don't go with those of a word: all of a test have one width")]
+    #[error("line {line}: accesses of 64 bits don't go with those of a word: all have one width")]
     BothWidths { line: usize },
     #[error("P{hart}:{at} may make a word of more than 32 bits: with accesses of 64 bits none is judged")]
     Word { hart: u8, at: u8 },
