@@ -1,8 +1,8 @@
 #!/usr/bin/env python3
 """Checks a certificate of an answer, in plain Python.
 
-    scripts/check_certificate.py TEST PRICES CERTIFICATE
-    scripts/check_certificate.py --sites [--free] FILE.. PRICES CERTIFICATE
+    scripts/check_certificate.py [--zalasr] TEST PRICES CERTIFICATE
+    scripts/check_certificate.py [--zalasr] --sites [--free] FILE.. PRICES CERTIFICATE
 
 It is written from docs/CERTIFICATE.md, docs/REFUTATIONS.md, docs/FORMAT.md and docs/MODEL.md alone, and shares no code
 with the program. The sections below name the part of these documents that they follow.
@@ -131,8 +131,7 @@ FORMS = {
     'nop': ('', 'compute', operator.add), 'mv': ('d,s', 'compute', operator.add),
     'neg': ('d,s', 'compute', lambda a, b: -a), 'not': ('d,s', 'compute', lambda a, b: ~a),
     'sext.w': ('d,s', 'compute', operator.add), 'sltiu': ('d,s,i', 'compute', operator.lt),
-    'lw': ('d,m(a)', 'load', None), 'sw': ('v,m(a)', 'store', None), 'jal': ('z,l', 'jump', None),
-    'j': ('l', 'jump', None), 'fence': ('f,f', 'fence', None), 'fence.tso': ('', 'fence', None),
+    'jal': ('z,l', 'jump', None), 'j': ('l', 'jump', None), 'fence': ('f,f', 'fence', None), 'fence.tso': ('', 'fence', None),
     'fence.i': ('', 'fence', None)}
 """Of each instruction (FORMAT 2) its operands, its form, and what it computes or when it jumps. Operands are d, the
 register rd; s, one to read plainly; v, the data; a, the address; z, the register x0; l, a label; f, the letters of a
@@ -150,6 +149,8 @@ for _name, _compare in COMPARES.items():
     if _name in ('eq', 'ne', 'lt', 'gt'):
         FORMS['s%sz' % _name] = ('d,s', 'compute', _compare)
 for _bits in ['', '.aq', '.rl', '.aqrl', '.aq.rl']:
+    FORMS['lw' + _bits] = ('d,m(a)', 'load', None)
+    FORMS['sw' + _bits] = ('v,m(a)', 'store', None)
     FORMS['lr.w' + _bits] = ('d,o(a)', 'lr', None)
     FORMS['sc.w' + _bits] = ('d,v,o(a)', 'sc', None)
     for _name in ['swap', 'add', 'xor', 'and', 'or', 'min', 'max', 'minu', 'maxu']:
@@ -172,9 +173,9 @@ class Instruction:
         if name == 'fence' and not words:
             words = ['iorw', ',', 'iorw']
         self.is_right = all(self.take(operand, words) for operand in operands) and not words
-        if self.form in ('lr', 'sc', 'amo'):
-            aq, rl = 'aq' in name, 'rl' in name         # (no name without annotations has these letters)
-            self.acquires, self.releases = aq and (self.form != 'sc' or rl), rl and (self.form != 'lr' or aq)
+        aq, rl = '.aq' in name, name.endswith('rl') and '.' in name
+        self.acquires = aq and (rl or self.form not in ('store', 'sc'))
+        self.releases = rl and (aq or self.form not in ('load', 'lr'))
         if self.is_right and self.form == 'fence' and name != 'fence.i':
             self.pairs = product_of(*self.letters) if self.letters else TSO
 
@@ -215,10 +216,12 @@ TOKEN = re.compile(r'(\(\*|\*\))|([A-Za-z0-9_.]+|/\\|\\/|[^ \t\r])')
 """A sign of a comment; or a token, or a line end."""
 SIGNS = {*'{};|,:=()[]~-*&<>!', '/\\', '\\/'}
 FAULTS = {3: 'Syntax', 4: 'UnknownInstr', 5: 'BadAnnotation', 6: 'BadLabel', 7: 'BadInit'}
-# Is this token a number, any word, a name, the mnemonic of an access?
+READS_ORDERED = False       # whether annotations of lw and sw are read
+# Is this token a number, any word, a name, lw or sw with annotations, the mnemonic of an access?
 is_number = re.compile('0x[0-9A-Fa-f]+|[0-9]+').fullmatch
 is_word = re.compile('[A-Za-z0-9_.]').match
 is_name = re.compile('[A-Za-z_][A-Za-z0-9_]*').fullmatch
+is_ordered = re.compile(r'[ls]w\..*').fullmatch
 is_access = re.compile(r'([ls]|(?:lr|sc|amo[a-z]+)\.)([wd])(u|\..*|)').fullmatch     # the second part is its width
 
 
@@ -440,12 +443,13 @@ class Test:
                 at += 2
             if at == len(words):
                 continue
-            made = Instruction(words[at], words[at + 1:]) if words[at] in FORMS else None
+            is_known = words[at] in FORMS and (READS_ORDERED or not is_ordered(words[at]))
+            made = Instruction(words[at], words[at + 1:]) if is_known else None
             if is_word(words[at]) and made is None:
                 self.faults.append((4, lines[at]))
             elif made is None or not made.is_right:
                 self.faults.append((3, lines[0]))
-            elif words[at] in ('lr.w.rl', 'sc.w.aq'):
+            elif words[at] in ('lr.w.rl', 'sc.w.aq', 'lw.rl', 'sw.aq'):
                 self.faults.append((5, lines[at]))
             else:
                 code.append(made)
@@ -1354,10 +1358,12 @@ class Judge:
 
 
 def main(arguments):
-    words = [word for word in arguments if word not in ('--sites', '--free')]
+    global READS_ORDERED
+    READS_ORDERED = '--zalasr' in arguments
+    words = [word for word in arguments if word not in ('--sites', '--free', '--zalasr')]
     is_sites, is_free = '--sites' in arguments, '--free' in arguments
-    out, error, status = '', ('usage: check_certificate.py TEST PRICES CERTIFICATE\n'
-                              '       check_certificate.py --sites [--free] FILE.. PRICES CERTIFICATE\n'), 2
+    out, error, status = '', ('usage: check_certificate.py [--zalasr] TEST PRICES CERTIFICATE\n'
+                              '       check_certificate.py [--zalasr] --sites [--free] FILE.. PRICES CERTIFICATE\n'), 2
     if len(words) == 3 and not is_free or len(words) >= 3 and is_sites:
         try:
             out, error, status = Judge(words[:-2], words[-2], is_sites, is_free).verdict(read(words[-1], bytes))

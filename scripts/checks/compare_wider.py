@@ -1,4 +1,5 @@
-"""Tests in wider forms against plain Python: loops in one turn, a `filter`, and accesses of 64 bits."""
+"""Tests in wider forms against plain Python: loops in one turn, a `filter`, accesses of 64 bits, and loads and stores
+with annotations."""
 import random
 import re
 from unittest import mock
@@ -196,8 +197,42 @@ def check_wide(run, chance, number):
     run.check(f"where 32 bits aren't enough, {text}", fits or is_refused, said)
 
 
+ANNOTATED = {"lw": ["", ".aq", ".aqrl", ".aq.rl"], "sw": ["", ".rl", ".aqrl", ".aq.rl"]}
+
+
+def check_ordered(run, chance, number):
+    """With annotations of loads and stores answers, certificates and states must be right, and without the word for
+    them the first is an unknown instruction."""
+    data, prices = made_test(number)
+    text = re.sub(r"\b(lw|sw)\b", lambda it: it[1] + chance.choice(ANNOTATED[it[1]]), data.decode())
+    files, path = [run.file("ordered", text), run.file("prices.json", prices)], f"{run.folder}/ordered.json"
+    found = rvfence("solve", "-q", "--zalasr", *files, "--cert", path)
+    with mock.patch.object(model, "READS_ORDERED", True):
+        test = model.test_of(text.encode())
+        wanted = reference.answer(test, model.prices_of(prices))
+        run.check(f"the answer to {text}", reference.is_same(test, wanted, found), f"wanted {wanted}, found {found}")
+        if found.status < 2:
+            said = model.Judge(files[:1], files[1]).verdict(open(path, "rb").read())
+            run.expect(f"the certificate of {text}", f"yes\n{found.out}", said.out)
+        said = rvfence("states", "-q", "--all", "--zalasr", files[0])
+        try:
+            listing = reference.Listing(text.encode(), True)
+            states = [listing.line_of(it) for it in listing.states((None,) * len(test.slots()))]
+            run.expect(f"the states of {text}", states, lines_of(said))
+        except model.Fault as fault:
+            run.expect(f"the fault of {text}", f"{fault}\n", said.err)
+    at = next((at for at, line in enumerate(text.split("\n"), 1) if re.search(r"\b[ls]w\.", line)), None)
+    said = rvfence("place", "-q", files[0])
+    run.expect(f"what {text} is without the word", f"fault F4 UnknownInstr line {at}\n" if at else "", said.err)
+    printed = rvfence("place", "-q", "--zalasr", files[0])
+    again = rvfence("place", "-q", "--zalasr", run.file("printed", printed.out))
+    run.expect(f"{text} printed again", (printed.out, 0), (again.out, again.status))
+    run.kinds["annotated, " + found.out.split("\n")[0].split()[0] if found.out else "annotated, fault"] += 1
+
+
 def check(run):
-    """Compares what is said of made tests with loops in one turn, with a `filter`, and with accesses of 64 bits."""
+    """Compares what is said of made tests with loops in one turn, with a `filter`, with accesses of 64 bits, and with
+    annotations of loads and stores."""
     for number in run.numbers():
-        for one in (check_loops, check_turns, check_notes, check_written, check_filter, check_wide):
+        for one in (check_loops, check_turns, check_notes, check_written, check_filter, check_wide, check_ordered):
             one(run, random.Random(f"{one.__name__} {number}"), number)

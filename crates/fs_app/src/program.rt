@@ -170,6 +170,7 @@ pub(crate) fn say_notes<R: Files + Eprint + AllocGlobal>(rt: &R, voice: Voice, n
 fn forms_of(request: &Request<'_>) -> Forms {
     let mut forms = Forms {
         unroll: request.unroll,
+        zalasr: request.zalasr,
         filter: true,
         sites: false,
         all: false,

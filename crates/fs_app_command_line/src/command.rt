@@ -457,6 +457,8 @@ const FILES_AND_PRICES_HELP: &str = "Litmus tests, folders and @lists, and behin
 const UNROLL_HELP: &str =
     "Read branches that go back, with 1: of executions those in which none does";
 
+const ZALASR_HELP: &str = "Read lw.aq, sw.rl and their like, of the extension Zalasr";
+
 const NODES_HELP: &str = "Most nodes that the search may make, 1 to 1000000";
 
 /// What is read of an option that may have a path and has none. No path has such a byte.
@@ -484,6 +486,8 @@ pub struct Request<'a> {
     pub verbose: bool,
     /// Whether branches that go back are read: of executions those in which none does.
     pub unroll: bool,
+    /// Whether lw and sw may have the annotations of the extension Zalasr.
+    pub zalasr: bool,
 }
 
 /// What is to be done. Files go by their paths.
@@ -774,13 +778,14 @@ fn request_of<'a>(alloc: Global, matches: &ArgMatches<'a>) -> Result<Request<'a>
         task: task_of(alloc, name, found)?,
         quiet: found.get_flag("quiet"),
         verbose: found.get_flag("verbose"),
-        unroll: unrolls(name, found),
+        unroll: reads_tests(name) && found.get_one::<u8>("unroll").is_some(),
+        zalasr: reads_tests(name) && found.get_flag("zalasr"),
     })
 }
 
-/// Is `--unroll 1` said, by a command that reads tests?
-fn unrolls(name: &str, found: &ArgMatches<'_>) -> bool {
-    name != "completions" && found.get_one::<u8>("unroll").is_some()
+/// Does the command of this name read tests, and so have the words for their forms?
+fn reads_tests(name: &str) -> bool {
+    name != "completions"
 }
 
 /// What the command of this name is to do.
@@ -1159,6 +1164,13 @@ const PARAMETERS: &[Parameter] = &[
         help: UNROLL_HELP,
     },
     Parameter {
+        command: "test",
+        name: "zalasr",
+        form: Form::Flag,
+        value: "",
+        help: ZALASR_HELP,
+    },
+    Parameter {
         command: "solve",
         name: "FILE",
         form: Form::Files,
@@ -1243,6 +1255,13 @@ const PARAMETERS: &[Parameter] = &[
         help: UNROLL_HELP,
     },
     Parameter {
+        command: "solve",
+        name: "zalasr",
+        form: Form::Flag,
+        value: "",
+        help: ZALASR_HELP,
+    },
+    Parameter {
         command: "audit",
         name: "FILE",
         form: Form::Files,
@@ -1320,6 +1339,13 @@ const PARAMETERS: &[Parameter] = &[
         help: UNROLL_HELP,
     },
     Parameter {
+        command: "audit",
+        name: "zalasr",
+        form: Form::Flag,
+        value: "",
+        help: ZALASR_HELP,
+    },
+    Parameter {
         command: "states",
         name: "FILE",
         form: Form::Words,
@@ -1362,6 +1388,13 @@ const PARAMETERS: &[Parameter] = &[
         help: UNROLL_HELP,
     },
     Parameter {
+        command: "states",
+        name: "zalasr",
+        form: Form::Flag,
+        value: "",
+        help: ZALASR_HELP,
+    },
+    Parameter {
         command: "place",
         name: "FILE",
         form: Form::Word,
@@ -1402,6 +1435,13 @@ const PARAMETERS: &[Parameter] = &[
         form: Form::Turns,
         value: "N",
         help: UNROLL_HELP,
+    },
+    Parameter {
+        command: "place",
+        name: "zalasr",
+        form: Form::Flag,
+        value: "",
+        help: ZALASR_HELP,
     },
     Parameter {
         command: "order",
@@ -1458,6 +1498,13 @@ const PARAMETERS: &[Parameter] = &[
         form: Form::Turns,
         value: "N",
         help: UNROLL_HELP,
+    },
+    Parameter {
+        command: "order",
+        name: "zalasr",
+        form: Form::Flag,
+        value: "",
+        help: ZALASR_HELP,
     },
     Parameter {
         command: "check",
@@ -1521,6 +1568,13 @@ const PARAMETERS: &[Parameter] = &[
         form: Form::Turns,
         value: "N",
         help: UNROLL_HELP,
+    },
+    Parameter {
+        command: "check",
+        name: "zalasr",
+        form: Form::Flag,
+        value: "",
+        help: ZALASR_HELP,
     },
     Parameter {
         command: "completions",

@@ -92,9 +92,7 @@ fn token_words(
     match fault {
         Fault::Syntax { .. } => syntax_words(alloc, spot, closed),
         Fault::UnknownInstr { .. } => Ok(mnemonic_words(spot)),
-        Fault::BadAnnotation { .. } => Ok(
-            "left out: write `lr.w.aqrl` or `sc.w.aqrl`, or neither suffix and a fence",
-        ),
+        Fault::BadAnnotation { .. } => Ok("left out: write `.aqrl`, or no suffix and a fence"),
         Fault::BadLabel { .. } => Ok(label_words(spot)),
         Fault::BadInit { .. } => Ok(entry_words(columns_of(alloc, &tokens)?, spot)),
         Fault::BadCondition => Ok(atom_words(columns_of(alloc, &tokens)?, spot)),

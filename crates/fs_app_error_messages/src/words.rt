@@ -51,7 +51,7 @@ fn other_words(word: &str) -> &'static str {
         return "the letters are operands: write `fence rw,w`, or `fence.tso`";
     }
     if word.starts_with("lw.") || word.starts_with("sw.") {
-        return "`lw` and `sw` take no suffix: write a fence, or `lr.w`, `sc.w` or an AMO";
+        return "annotations of `lw` and `sw` are of the extension Zalasr: give `--zalasr`, or write a fence";
     }
     "no mnemonic of this profile: docs/FORMAT.md, section 2, lists them"
 }
@@ -64,8 +64,8 @@ pub(crate) fn operand_words(op: Op) -> &'static str {
         Op::Shift(_) => "expected `x5,x6,n`, n from 0 to 31, and no more",
         Op::Lui => "expected `x5,n`, n from 0 to 1048575, and no more",
         Op::Li => "expected a register and a number, as `x5,1`, and no more",
-        Op::Lw => "expected `x5,imm(x6)`, imm from -2048 to 2047, and no more",
-        Op::Sw => "expected `x5,imm(x6)`, imm from -2048 to 2047, and no more",
+        Op::Lw(_) => "expected `x5,imm(x6)`, imm from -2048 to 2047, and no more",
+        Op::Sw(_) => "expected `x5,imm(x6)`, imm from -2048 to 2047, and no more",
         Op::Lr(_) => "expected `x5,(x6)`, no other offset than 0, and no more",
         Op::Sc(_) => "expected `x5,x7,(x6)`, no other offset than 0, and no more",
         Op::Amo(_, _) => "expected `x5,x7,(x6)`, no other offset than 0, and no more",

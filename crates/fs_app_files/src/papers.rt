@@ -2,7 +2,7 @@
 
 ghost use Rattle.std.specs.Prelude.{◌≡◌, IfOk, OnOk};
 
-use crate::notes::{in_width, turn_notes};
+use crate::notes::{in_form, turn_notes};
 use crate::unusable::{Unusable, plain_text};
 use fs_app_error_messages::{
     Located, explain_all, explain_all_of_test, explain_fences, explain_json, explain_unread,
@@ -35,6 +35,8 @@ pub struct Papers<'a> {
     pub forms: Forms,
     /// Whether accesses of a word stand in the test for those of 64 bits.
     pub is_wide: bool,
+    /// Whether mnemonics of the test are hidden, as `Plain` says.
+    pub is_hidden: bool,
     /// Whether the test's condition has what its executions must meet, as `Plain` says.
     pub is_guarded: bool,
     /// The file of which the test is made, where that isn't in the reader's form.
@@ -55,6 +57,7 @@ impl<'a> Papers<'a> {
             fences: &[],
             forms,
             is_wide: false,
+            is_hidden: false,
             is_guarded: false,
             file: None,
             notes: String::new(alloc),
@@ -133,6 +136,7 @@ impl<'a> Papers<'a> {
                 let notes = turn_notes(alloc, name, &plain.turns)?;
                 self.notes.push_str(notes.as_str())?;
                 self.is_wide = plain.is_wide;
+                self.is_hidden = plain.is_hidden;
                 self.is_guarded = plain.is_guarded;
                 self.file = plain.file;
                 Ok(Paper {
@@ -175,7 +179,7 @@ impl<'a> Papers<'a> {
     /// more to say than its line, or no memory for it.
     pub fn message(&self, alloc: Global, fault: Fault) -> Option<String> {
         let message = self.explained(alloc, fault).unwrap_or(None)?;
-        in_width(alloc, message, self.is_wide).ok()
+        in_form(alloc, message, self.is_wide, self.is_hidden).ok()
     }
 
     /// The file that wasn't read, and why, where the run ended with this fault for it.
@@ -328,7 +332,7 @@ fn message_of_plain(alloc: Global, name: &str, plain: &Plain) -> Option<String> 
         return turn_notes(alloc, name, &plain.turns).ok();
     }
     let message = explain_all_of_test(alloc, name, &plain.text).unwrap_or(None)?;
-    in_width(alloc, message, plain.is_wide).ok()
+    in_form(alloc, message, plain.is_wide, plain.is_hidden).ok()
 }
 
 /// What that message says, for those who read JSON. The error is want of memory. The cost is that of `locate_test` of

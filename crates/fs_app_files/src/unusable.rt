@@ -48,6 +48,7 @@ pub fn plain_text(
                 turns: Vec::new(alloc),
                 is_guarded: false,
                 is_wide: false,
+                is_hidden: false,
             }),
             Err(why) => Err(Unusable::Unplain(why)),
         },

@@ -44,8 +44,8 @@ module _ (p : List Entry) (none : (s : Slot) → kind_at s p ≡ None) where
   instruction_stays hart (Shift op rd first amount) = refl
   instruction_stays hart (Lui rd upper) = refl
   instruction_stays hart (Li rd word) = refl
-  instruction_stays hart (Lw rd base offset) = refl
-  instruction_stays hart (Sw value base offset) = refl
+  instruction_stays hart (Lw ann rd base offset) = refl
+  instruction_stays hart (Sw ann value base offset) = refl
   instruction_stays hart (Lr ann rd base) = refl
   instruction_stays hart (Sc ann rd value base) = refl
   instruction_stays hart (Amo op ann rd value base) = refl

@@ -41,7 +41,7 @@ outcome_small true = tt
 outcome_small false = tt
 
 step_small : (n : ℕ) (h : Hart) (s : Step) (i : Instr) → Accesses n h s i → Each IsSmallChoice (option_to_list (choice_by i s))
-step_small n h s (Lw rd base offset) a = loaded_small s.loaded a.1
+step_small n h s (Lw ann rd base offset) a = loaded_small s.loaded a.1
 step_small n h s (Lr ann rd base) a = loaded_small s.loaded a.1
 step_small n h s (Amo op ann rd value base) a = loaded_small s.loaded a.1
 step_small n h s (Sc ann rd value base) a = (outcome_small (is_some s.stored), tt)

@@ -104,8 +104,8 @@ other_exact x loaded stored (Immediate op rd first n) p q r t = absurd (q op rd 
 other_exact x loaded stored (Shift op rd first amount) p q r t = absurd (r op rd first amount refl)
 other_exact x loaded stored (Lui rd upper) p q r t = record { result = refl; stored_word = refl }
 other_exact x loaded stored (Li rd word) p q r t = record { result = refl; stored_word = refl }
-other_exact x loaded stored (Lw rd base offset) p q r t = record { result = loaded_exact loaded; stored_word = refl }
-other_exact x loaded stored (Sw value base offset) p q r t =
+other_exact x loaded stored (Lw ann rd base offset) p q r t = record { result = loaded_exact loaded; stored_word = refl }
+other_exact x loaded stored (Sw ann value base offset) p q r t =
     record { result = refl; stored_word = stored_exact x value }
 other_exact x loaded stored (Lr ann rd base) p q r t = record { result = loaded_exact loaded; stored_word = refl }
 other_exact x loaded stored (Sc ann rd value base) p q r t =

@@ -5,6 +5,7 @@
 mod guard;
 mod lexemes;
 mod loops;
+mod ordered;
 mod plain;
 mod restore;
 mod sheet;
@@ -12,6 +13,7 @@ mod turns;
 mod width;
 mod words;
 
+pub use ordered::with_ordered;
 pub use plain::{Forms, Plain, Unplain, in_file, plain_form};
 pub use turns::{Doubt, OneTurn};
 pub use width::{widened, widened_words};

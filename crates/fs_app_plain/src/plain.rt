@@ -10,6 +10,7 @@ ghost use Rattle.fs_app_plain.specs.Exactly.{IsExactText};
 use crate::guard::{Asked, asked_of, is_balanced, push_line};
 use crate::lexemes::{Lexeme, lexemes, line_at, part, word_at};
 use crate::loops::{Loops, Turn, loops_of};
+use crate::ordered::hidden;
 use crate::restore::restored;
 use crate::sheet::{Sheet, sheet_of};
 use crate::turns::{OneTurn, Registers, doubtful, read_at_end};
@@ -26,6 +27,8 @@ use thiserror::Error;
 pub struct Forms {
     /// Loops, in one turn.
     pub unroll: bool,
+    /// lw and sw with annotations, of the extension Zalasr.
+    pub zalasr: bool,
     /// A `filter`.
     pub filter: bool,
     /// Whether labels name sites. Those that name loops alone are none.
@@ -47,6 +50,8 @@ pub struct Plain {
     pub is_guarded: bool,
     /// Accesses of a word stand in it for those of 64 bits.
     pub is_wide: bool,
+    /// Loads and stores have annotations in it that aren't read: what stands there for these is no mnemonic.
+    pub is_hidden: bool,
 }
 
 impl Plain {
@@ -436,6 +441,63 @@ fn finished(
         turns,
         is_guarded: made.is_guarded,
         is_wide,
+        is_hidden: false,
+    })
+}
+
+/// The text of a test file in the reader's form; nothing where it is in that, or in no form that is known.
+fn readable_form(
+    alloc: Global,
+    bytes: &[u8],
+    lexemes: &[Lexeme],
+    forms: Forms,
+) -> Result<Option<Plain>, Unplain>
+    ensures exact { IfOk result (λ made. IfSome made (λ plain. plain.is_wide ≡ true → IsExactText plain.text.items)) }
+{
+    let sheet = sheet_of(alloc, bytes, lexemes)?;
+    if !sheet.is_whole {
+        return Ok(None);
+    }
+    let widths = widths_of(bytes, lexemes, &sheet);
+    if let Widths::Both(other) = widths {
+        let made = made_of(alloc, bytes, lexemes, &sheet, forms, true)?;
+        if reads(alloc, made)? {
+            let line = line_at(bytes, lexemes, other);
+            return Err(Unplain::BothWidths { line });
+        }
+    }
+    let is_wide = matches!(widths, Widths::Doubles);
+    if is_wide && has_great_number(bytes, lexemes) {
+        return Err(Unplain::Number);
+    }
+    let Some(made) = made_of(alloc, bytes, lexemes, &sheet, forms, is_wide)? else {
+        return Ok(None);
+    };
+    let at_end = read_at_end(alloc, bytes, lexemes, sheet.tail, forms.all)?;
+    Ok(Some(finished(alloc, made, &at_end, is_wide)?))
+}
+
+/// The text in the reader's form, in which mnemonics are hidden.
+fn hidden_form(
+    alloc: Global,
+    text: Vec<u8>,
+    lexemes: &[Lexeme],
+    forms: Forms,
+) -> Result<Plain, Unplain>
+    ensures exact { IfOk result (λ plain. plain.is_wide ≡ true → IsExactText plain.text.items) }
+{
+    if let Some(plain) = readable_form(alloc, &text, lexemes, forms)? {
+        let mut plain = plain;
+        plain.is_hidden = true;
+        return Ok(plain);
+    }
+    Ok(Plain {
+        text,
+        file: None,
+        turns: Vec::new(alloc),
+        is_guarded: false,
+        is_wide: false,
+        is_hidden: true,
     })
 }
 
@@ -447,6 +509,8 @@ fn finished(
 /// - A `filter` becomes part of the condition.
 /// - Where it is asked for, each branch that goes back ends its hart's attempt: it goes to the end of the code, past an
 ///   instruction that writes 1 to a register which the file doesn't name, and the condition asks that this is 1.
+/// - Where loads and stores with annotations aren't asked for, and the file has some, a letter of their mnemonics is
+///   another, so that it is refused as by a reader who doesn't know them.
 ///
 /// Positions of instructions stay, and lines but for those of a `filter`. Linear in the bytes; of accesses of 64 bits,
 /// and of loops, also the cost of listing the test's runs.
@@ -459,27 +523,12 @@ pub fn plain_form(alloc: Global, bytes: &[u8], forms: Forms) -> Result<Option<Pl
     };
     let first = bytes.len().saturating_sub(body.text.len());
     let lexemes = lexemes(alloc, bytes, first)?;
-    let sheet = sheet_of(alloc, bytes, &lexemes)?;
-    if !sheet.is_whole {
-        return Ok(None);
-    }
-    let widths = widths_of(bytes, &lexemes, &sheet);
-    if let Widths::Both(other) = widths {
-        let made = made_of(alloc, bytes, &lexemes, &sheet, forms, true)?;
-        if reads(alloc, made)? {
-            let line = line_at(bytes, &lexemes, other);
-            return Err(Unplain::BothWidths { line });
+    if !forms.zalasr {
+        if let Some(text) = hidden(alloc, bytes, &lexemes)? {
+            return Ok(Some(hidden_form(alloc, text, &lexemes, forms)?));
         }
     }
-    let is_wide = matches!(widths, Widths::Doubles);
-    if is_wide && has_great_number(bytes, &lexemes) {
-        return Err(Unplain::Number);
-    }
-    let Some(made) = made_of(alloc, bytes, &lexemes, &sheet, forms, is_wide)? else {
-        return Ok(None);
-    };
-    let at_end = read_at_end(alloc, bytes, &lexemes, sheet.tail, forms.all)?;
-    Ok(Some(finished(alloc, made, &at_end, is_wide)?))
+    readable_form(alloc, bytes, &lexemes, forms)
 }
 
 /// Do both have the same words and signs? Linear in the texts.

@@ -20,12 +20,17 @@ fn is_atomic(stem: &str) -> bool {
     matches!(stem, "lr" | "sc") || stem.starts_with("amo")
 }
 
-/// The width of a mnemonic as `lr.d` or `amoadd.w.aq`, and the number of its letter.
-fn width_of_atomic(mnemonic: &str) -> Option<(Width, usize)> {
-    let (stem, rest) = mnemonic.split_once('.')?;
-    if !is_atomic(stem) {
-        return None;
+/// The width of a load or a store, and the number of its letter.
+fn width_of_plain(stem: &str) -> Option<(Width, usize)> {
+    match stem {
+        "ld" | "sd" => Some((Width::Double, 1)),
+        "lw" | "sw" | "lwu" => Some((Width::Word, 1)),
+        _ => None,
     }
+}
+
+/// The width of a mnemonic as `lr.d` or `amoadd.w.aq`, and the number of its letter.
+fn width_of_atomic(stem: &str, rest: &str) -> Option<(Width, usize)> {
     let letter = stem.len().saturating_add(1);
     if rest == "d" || rest.starts_with("d.") {
         return Some((Width::Double, letter));
@@ -38,10 +43,10 @@ fn width_of_atomic(mnemonic: &str) -> Option<(Width, usize)> {
 
 /// The width of what the instruction accesses, and the number of the letter in its mnemonic that says it.
 fn width_of(mnemonic: &str) -> Option<(Width, usize)> {
-    match mnemonic {
-        "ld" | "sd" => Some((Width::Double, 1)),
-        "lw" | "sw" | "lwu" => Some((Width::Word, 1)),
-        _ => width_of_atomic(mnemonic),
+    match mnemonic.split_once('.') {
+        Some((stem, rest)) if is_atomic(stem) => width_of_atomic(stem, rest),
+        Some((stem, _)) => width_of_plain(stem),
+        None => width_of_plain(mnemonic),
     }
 }
 

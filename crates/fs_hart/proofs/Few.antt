@@ -118,8 +118,8 @@ module _ (passes : Operation → Bool) (counts : Instr → Bool) (kind : IsOfKin
 -- ---- all operations, one for each memory instruction
 
 only_memory : (n : ℕ) (h : Hart) (s : Step) (i : Instr) → Accesses n h s i → is_some s.address ≡ true → is_memory i ≡ true
-only_memory n h s (Lw rd base offset) a there = refl
-only_memory n h s (Sw value base offset) a there = refl
+only_memory n h s (Lw ann rd base offset) a there = refl
+only_memory n h s (Sw ann value base offset) a there = refl
 only_memory n h s (Lr ann rd base) a there = refl
 only_memory n h s (Sc ann rd value base) a there = refl
 only_memory n h s (Amo op ann rd value base) a there = refl

@@ -26,7 +26,7 @@ use Rattle.std.proofs.lemmas.Fmt.{decimal_is_IsNumeral}
 use Rattle.fs_instr.specs.declared.operands.OperandPart.TheVariants as part
 use Rattle.fs_instr.specs.declared.instr.Instr.TheVariants as instr
 use Rattle.fs_instr.specs.Names.{op_of, single_names, branch_names, immediate_names, register_names}
-use Rattle.fs_instr.proofs.RoundTrip.{register_name, branch_name, amo_name, immediate_name, shift_name, lr_name, sc_name, letters_back, ann_of}
+use Rattle.fs_instr.proofs.RoundTrip.{register_name, branch_name, amo_name, immediate_name, shift_name, lw_name, sw_name, lr_name, sc_name, letters_back, ann_of}
 use Rattle.fs_instr.proofs.Printed.{register_back, number_back}
 
 register_instr : (o : RegOp) (d a b : ℕ) → d < 32 → a < 32 → b < 32 → ReadsBack (instr.Register o d a b)
@@ -79,15 +79,13 @@ name_back t h = let d = decimal_is_IsNumeral t (omega arith) in let e = no_dot (
 
 -- ---- shapes
 
-lw_instr : (d a : ℕ) (z : ℤ) → d < 32 → a < 32 → IsImmediate z → ReadsBack (instr.Lw d a z)
-unfolding op_of register_names immediate_names branch_names single_names
-lw_instr d a z hd ha hz =
-    spells refl (next (rd (register_back d hd)) (next sign (next (offset_part (imm_part _ z _ hz)) (next sign (next (first (register_back a ha)) (next sign none)))))) refl
+lw_instr : (p q : Bool) (d a : ℕ) (z : ℤ) → is_refused (op.Lw (ann_of p q)) ≡ false → d < 32 → a < 32 → IsImmediate z → ReadsBack (instr.Lw (ann_of p q) d a z)
+lw_instr p q d a z fine hd ha hz =
+    spells (lw_name p q) (next (rd (register_back d hd)) (next sign (next (offset_part (imm_part _ z _ hz)) (next sign (next (first (register_back a ha)) (next sign none)))))) fine
 
-sw_instr : (v a : ℕ) (z : ℤ) → v < 32 → a < 32 → IsImmediate z → ReadsBack (instr.Sw v a z)
-unfolding op_of register_names immediate_names branch_names single_names
-sw_instr v a z hv ha hz =
-    spells refl (next (second (register_back v hv)) (next sign (next (offset_part (imm_part _ z _ hz)) (next sign (next (first (register_back a ha)) (next sign none)))))) refl
+sw_instr : (p q : Bool) (v a : ℕ) (z : ℤ) → is_refused (op.Sw (ann_of p q)) ≡ false → v < 32 → a < 32 → IsImmediate z → ReadsBack (instr.Sw (ann_of p q) v a z)
+sw_instr p q v a z fine hv ha hz =
+    spells (sw_name p q) (next (second (register_back v hv)) (next sign (next (offset_part (imm_part _ z _ hz)) (next sign (next (first (register_back a ha)) (next sign none)))))) fine
 
 li_instr : (d n : ℕ) → d < 32 → n < 2 ^ 32 → ReadsBack (instr.Li d n)
 unfolding op_of register_names immediate_names branch_names single_names
@@ -148,8 +146,8 @@ reads_back (instr.Immediate o d a z) h = imm_instr o d a z h.0 h.1 h.2
 reads_back (instr.Shift o d a n) h = shift_instr o d a n h.0 h.1 h.2
 reads_back (instr.Lui d n) h = lui_instr d n h.0 h.1
 reads_back (instr.Li d n) h = li_instr d n h.0 h.1
-reads_back (instr.Lw d a z) h = lw_instr d a z h.0 h.1 h.2
-reads_back (instr.Sw v a z) h = sw_instr v a z h.0 h.1 h.2
+reads_back (instr.Lw ann d a z) h = lw_instr ann.acquire ann.release d a z h.0 h.1 h.2 h.3
+reads_back (instr.Sw ann v a z) h = sw_instr ann.acquire ann.release v a z h.0 h.1 h.2 h.3
 reads_back (instr.Lr ann d a) h = lr_instr ann.acquire ann.release d a h.0 h.1 h.2
 reads_back (instr.Sc ann d v a) h = sc_instr ann.acquire ann.release d v a h.0 h.1 h.2 h.3
 reads_back (instr.Amo o ann d v a) h = amo_instr o ann.acquire ann.release d v a h.0 h.1 h.2

@@ -6,7 +6,7 @@ use Rattle.fs_instr.specs.declared.names.Ann.{Ann}
 use Rattle.fs_instr.specs.declared.names.RegOp.{RegOp}
 use Rattle.fs_instr.specs.declared.names.AmoOp.{AmoOp}
 use Rattle.fs_instr.specs.declared.names.BranchOp.{BranchOp}
-use Rattle.fs_instr.specs.declared.names.Op.TheVariants.{Register, Immediate, Shift, Lr, Sc, Amo, Branch}
+use Rattle.fs_instr.specs.declared.names.Op.TheVariants.{Register, Immediate, Shift, Lw, Sw, Lr, Sc, Amo, Branch}
 use Rattle.fs_instr.specs.declared.names.ImmOp.{ImmOp}
 use Rattle.fs_instr.specs.declared.names.ShiftOp.{ShiftOp}
 use Rattle.fs_instr.specs.declared.names.RegOp.TheVariants as reg
@@ -112,6 +112,20 @@ unfolding op_of register_names immediate_names branch_names single_names plain_n
 shift_name shift.Slli = refl
 shift_name shift.Srli = refl
 shift_name shift.Srai = refl
+
+pub lw_name : (a r : Bool) → op_of (name_text (Lw (ann_of a r))) ≡ Some (Lw (ann_of a r))
+unfolding op_of register_names immediate_names branch_names single_names plain_names acquiring_names releasing_names both_names both_apart_names
+lw_name true true = refl
+lw_name true false = refl
+lw_name false true = refl
+lw_name false false = refl
+
+pub sw_name : (a r : Bool) → op_of (name_text (Sw (ann_of a r))) ≡ Some (Sw (ann_of a r))
+unfolding op_of register_names immediate_names branch_names single_names plain_names acquiring_names releasing_names both_names both_apart_names
+sw_name true true = refl
+sw_name true false = refl
+sw_name false true = refl
+sw_name false false = refl
 
 pub lr_name : (a r : Bool) → op_of (name_text (Lr (ann_of a r))) ≡ Some (Lr (ann_of a r))
 unfolding op_of register_names immediate_names branch_names single_names plain_names acquiring_names releasing_names both_names both_apart_names

@@ -25,8 +25,8 @@ parts_of (op.Immediate o) = Rd ∷ comma ∷ First ∷ comma ∷ Immediate ∷ [
 parts_of (op.Shift o) = Rd ∷ comma ∷ First ∷ comma ∷ Below 32 ∷ []
 parts_of op.Lui = Rd ∷ comma ∷ Below 1048576 ∷ []
 parts_of op.Li = Rd ∷ comma ∷ Constant ∷ []
-parts_of op.Lw = Rd ∷ comma ∷ Offset ∷ at_first
-parts_of op.Sw = Second ∷ comma ∷ Offset ∷ at_first
+parts_of (op.Lw ann) = Rd ∷ comma ∷ Offset ∷ at_first
+parts_of (op.Sw ann) = Second ∷ comma ∷ Offset ∷ at_first
 parts_of (op.Lr ann) = Rd ∷ comma ∷ NoOffset ∷ at_first
 parts_of (op.Sc ann) = Rd ∷ comma ∷ Second ∷ comma ∷ NoOffset ∷ at_first
 parts_of (op.Amo o ann) = Rd ∷ comma ∷ Second ∷ comma ∷ NoOffset ∷ at_first
@@ -53,8 +53,8 @@ instr_of (op.Immediate o) x = instr.Immediate o x.rd x.first x.imm
 instr_of (op.Shift o) x = instr.Shift o x.rd x.first x.constant
 instr_of op.Lui x = instr.Lui x.rd x.constant
 instr_of op.Li x = instr.Li x.rd x.constant
-instr_of op.Lw x = instr.Lw x.rd x.first x.imm
-instr_of op.Sw x = instr.Sw x.second x.first x.imm
+instr_of (op.Lw ann) x = instr.Lw ann x.rd x.first x.imm
+instr_of (op.Sw ann) x = instr.Sw ann x.second x.first x.imm
 instr_of (op.Lr ann) x = instr.Lr ann x.rd x.first
 instr_of (op.Sc ann) x = instr.Sc ann x.rd x.second x.first
 instr_of (op.Amo o ann) x = instr.Amo o ann x.rd x.second x.first
@@ -83,8 +83,8 @@ op_of_instr (instr.Immediate o rd a z) = op.Immediate o
 op_of_instr (instr.Shift o rd a n) = op.Shift o
 op_of_instr (instr.Lui rd n) = op.Lui
 op_of_instr (instr.Li rd n) = op.Li
-op_of_instr (instr.Lw rd a z) = op.Lw
-op_of_instr (instr.Sw v a z) = op.Sw
+op_of_instr (instr.Lw ann rd a z) = op.Lw ann
+op_of_instr (instr.Sw ann v a z) = op.Sw ann
 op_of_instr (instr.Lr ann rd a) = op.Lr ann
 op_of_instr (instr.Sc ann rd v a) = op.Sc ann
 op_of_instr (instr.Amo o ann rd v a) = op.Amo o ann
@@ -103,8 +103,8 @@ operands_of (instr.Immediate o rd a z) = record empty { rd = rd; first = a; imm 
 operands_of (instr.Shift o rd a n) = record empty { rd = rd; first = a; constant = n }
 operands_of (instr.Lui rd n) = record empty { rd = rd; constant = n }
 operands_of (instr.Li rd n) = record empty { rd = rd; constant = n }
-operands_of (instr.Lw rd a z) = record empty { rd = rd; first = a; imm = z }
-operands_of (instr.Sw v a z) = record empty { second = v; first = a; imm = z }
+operands_of (instr.Lw ann rd a z) = record empty { rd = rd; first = a; imm = z }
+operands_of (instr.Sw ann v a z) = record empty { second = v; first = a; imm = z }
 operands_of (instr.Lr ann rd a) = record empty { rd = rd; first = a }
 operands_of (instr.Sc ann rd v a) = record empty { rd = rd; second = v; first = a }
 operands_of (instr.Amo o ann rd v a) = record empty { rd = rd; second = v; first = a }

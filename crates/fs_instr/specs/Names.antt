@@ -73,8 +73,6 @@ unfoldable pub single_names : List (List ℕ × Op)
 single_names =
     (codes "lui", Lui) ∷
     (codes "li", Li) ∷
-    (codes "lw", Lw) ∷
-    (codes "sw", Sw) ∷
     (codes "fence", Fence) ∷
     (codes "fence.tso", FenceTso) ∷
     (codes "fence.i", FenceI) ∷
@@ -85,6 +83,8 @@ single_names =
 -- an annotated access, with the suffix none
 unfoldable pub plain_names : List (List ℕ × Op)
 plain_names =
+    (codes "lw", Lw plain) ∷
+    (codes "sw", Sw plain) ∷
     (codes "lr.w", Lr plain) ∷
     (codes "sc.w", Sc plain) ∷
     (codes "amoswap.w", Amo amo.Swap plain) ∷
@@ -101,6 +101,8 @@ plain_names =
 -- an annotated access, with the suffix .aq
 unfoldable pub acquiring_names : List (List ℕ × Op)
 acquiring_names =
+    (codes "lw.aq", Lw acquiring) ∷
+    (codes "sw.aq", Sw acquiring) ∷
     (codes "lr.w.aq", Lr acquiring) ∷
     (codes "sc.w.aq", Sc acquiring) ∷
     (codes "amoswap.w.aq", Amo amo.Swap acquiring) ∷
@@ -117,6 +119,8 @@ acquiring_names =
 -- an annotated access, with the suffix .rl
 unfoldable pub releasing_names : List (List ℕ × Op)
 releasing_names =
+    (codes "lw.rl", Lw releasing) ∷
+    (codes "sw.rl", Sw releasing) ∷
     (codes "lr.w.rl", Lr releasing) ∷
     (codes "sc.w.rl", Sc releasing) ∷
     (codes "amoswap.w.rl", Amo amo.Swap releasing) ∷
@@ -133,6 +137,8 @@ releasing_names =
 -- an annotated access, with the suffix .aqrl
 unfoldable pub both_names : List (List ℕ × Op)
 both_names =
+    (codes "lw.aqrl", Lw both) ∷
+    (codes "sw.aqrl", Sw both) ∷
     (codes "lr.w.aqrl", Lr both) ∷
     (codes "sc.w.aqrl", Sc both) ∷
     (codes "amoswap.w.aqrl", Amo amo.Swap both) ∷
@@ -149,6 +155,8 @@ both_names =
 -- an annotated access, with the suffix .aq.rl
 unfoldable pub both_apart_names : List (List ℕ × Op)
 both_apart_names =
+    (codes "lw.aq.rl", Lw both) ∷
+    (codes "sw.aq.rl", Sw both) ∷
     (codes "lr.w.aq.rl", Lr both) ∷
     (codes "sc.w.aq.rl", Sc both) ∷
     (codes "amoswap.w.aq.rl", Amo amo.Swap both) ∷
@@ -263,8 +271,6 @@ branch_text _ = []
 abbrev pub single_text : Op → List ℕ
 single_text (Lui) = codes "lui"
 single_text (Li) = codes "li"
-single_text (Lw) = codes "lw"
-single_text (Sw) = codes "sw"
 single_text (Fence) = codes "fence"
 single_text (FenceTso) = codes "fence.tso"
 single_text (FenceI) = codes "fence.i"
@@ -294,6 +300,8 @@ abbrev pub suffix_of : Ann → List ℕ
 suffix_of ann = suffix_text ann.acquire ann.release
 
 abbrev pub annotation_of : Op → Option Ann
+annotation_of (Lw ann) = Some ann
+annotation_of (Sw ann) = Some ann
 annotation_of (Lr ann) = Some ann
 annotation_of (Sc ann) = Some ann
 annotation_of (Amo o ann) = Some ann
@@ -308,6 +316,8 @@ name_text (Branch o) = branch_text (Branch o)
 name_text (BranchZero o) = branch_text (BranchZero o)
 name_text Jal = branch_text Jal
 name_text J = branch_text J
+name_text (Lw ann) = codes "lw" ++ suffix_of ann
+name_text (Sw ann) = codes "sw" ++ suffix_of ann
 name_text (Lr ann) = codes "lr.w" ++ suffix_of ann
 name_text (Sc ann) = codes "sc.w" ++ suffix_of ann
 name_text (Amo o ann) = amo_text o ++ suffix_of ann

@@ -5,7 +5,7 @@ use Rattle.fs_instr.specs.Names.{op_of}
 use Rattle.fs_instr.specs.Operands.{Filled, blank, read_parts}
 use Rattle.fs_instr.specs.Instructions.{parts_of, instr_of}
 use Rattle.fs_instr.specs.declared.names.Op.{Op}
-use Rattle.fs_instr.specs.declared.names.Op.TheVariants.{Lr, Sc, Fence, FenceAll}
+use Rattle.fs_instr.specs.declared.names.Op.TheVariants.{Lw, Sw, Lr, Sc, Fence, FenceAll}
 use Rattle.fs_instr.specs.declared.instr.Instr.{Instr}
 use Rattle.fs_instr.specs.declared.operands.Operands.{Operands}
 use Rattle.fs_instr.specs.declared.reading.Parsed.{Parsed}
@@ -20,9 +20,11 @@ abbrev pub outcome_of : Result Parsed Refused → Outcome
 outcome_of (Ok p) = Ok (p.instr, option_map (λ x. x.now) p.label)
 outcome_of (Err e) = Err e
 
--- lr.w.rl and sc.w.aq
+-- a load with rl alone, and a store with aq alone
 abbrev pub is_refused : Op → Bool
+is_refused (Lw ann) = not ann.acquire && ann.release
 is_refused (Lr ann) = not ann.acquire && ann.release
+is_refused (Sw ann) = ann.acquire && not ann.release
 is_refused (Sc ann) = ann.acquire && not ann.release
 is_refused _ = false
 

@@ -27,8 +27,8 @@ roles_of (instr.Immediate o rd a z) = roles (named rd) (named a) None None None 
 roles_of (instr.Shift o rd a n) = roles (named rd) (named a) None None None true
 roles_of (instr.Lui rd n) = roles (named rd) None None None None false
 roles_of (instr.Li rd n) = roles (named rd) None None None None false
-roles_of (instr.Lw rd a z) = roles (named rd) (named a) None (named a) None false
-roles_of (instr.Sw v a z) = roles None (named a) (named v) (named a) (named v) false
+roles_of (instr.Lw ann rd a z) = roles (named rd) (named a) None (named a) None false
+roles_of (instr.Sw ann v a z) = roles None (named a) (named v) (named a) (named v) false
 roles_of (instr.Lr ann rd a) = roles (named rd) (named a) None (named a) None false
 roles_of (instr.Sc ann rd v a) = roles (named rd) (named a) (named v) (named a) (named v) false
 roles_of (instr.Amo o ann rd v a) = roles (named rd) (named a) (named v) (named a) (named v) false
@@ -54,8 +54,8 @@ carries_of i = (roles_of i).carries
 
 -- lw, sw, lr.w, sc.w or an AMO
 abbrev pub is_memory : Instr → Bool
-is_memory (instr.Lw rd a z) = true
-is_memory (instr.Sw v a z) = true
+is_memory (instr.Lw ann rd a z) = true
+is_memory (instr.Sw ann v a z) = true
 is_memory (instr.Lr ann rd a) = true
 is_memory (instr.Sc ann rd v a) = true
 is_memory (instr.Amo o ann rd v a) = true
@@ -80,6 +80,8 @@ is_amo _ = false
 
 -- its bits aq and rl
 abbrev pub annotation : Instr → Ann
+annotation (instr.Lw ann rd a z) = ann
+annotation (instr.Sw ann v a z) = ann
 annotation (instr.Lr ann rd a) = ann
 annotation (instr.Sc ann rd v a) = ann
 annotation (instr.Amo o ann rd v a) = ann

@@ -52,12 +52,14 @@ pub enum Instr {
     },
     /// `lw rd,offset(base)`: loads the word at base + offset; `offset` is -2048 to 2047.
     Lw {
+        ann: Ann,
         rd: Reg,
         base: Reg,
         offset: i32,
     },
     /// `sw value,offset(base)`: stores a word at base + offset; `offset` is -2048 to 2047.
     Sw {
+        ann: Ann,
         value: Reg,
         base: Reg,
         offset: i32,
@@ -134,10 +136,10 @@ macro_rules! table {
                     (Instr::Lui { rd, upper: constant }) { dest: rd.named(), sources: [None, None], address: None, data: None, carries: false };
                 (Op::Li) [Rd, Sign(Comma), Constant] { rd, constant }
                     (Instr::Li { rd, word: constant }) { dest: rd.named(), sources: [None, None], address: None, data: None, carries: false };
-                (Op::Lw) [Rd, Sign(Comma), Offset, Sign(OpenParen), First, Sign(CloseParen)] { rd, first, imm }
-                    (Instr::Lw { rd, base: first, offset: imm }) { dest: rd.named(), sources: [first.named(), None], address: first.named(), data: None, carries: false };
-                (Op::Sw) [Second, Sign(Comma), Offset, Sign(OpenParen), First, Sign(CloseParen)] { second, first, imm }
-                    (Instr::Sw { value: second, base: first, offset: imm }) { dest: None, sources: [first.named(), second.named()], address: first.named(), data: second.named(), carries: false };
+                (Op::Lw(ann)) [Rd, Sign(Comma), Offset, Sign(OpenParen), First, Sign(CloseParen)] { rd, first, imm }
+                    (Instr::Lw { ann, rd, base: first, offset: imm }) { dest: rd.named(), sources: [first.named(), None], address: first.named(), data: None, carries: false };
+                (Op::Sw(ann)) [Second, Sign(Comma), Offset, Sign(OpenParen), First, Sign(CloseParen)] { second, first, imm }
+                    (Instr::Sw { ann, value: second, base: first, offset: imm }) { dest: None, sources: [first.named(), second.named()], address: first.named(), data: second.named(), carries: false };
                 (Op::Lr(ann)) [Rd, Sign(Comma), NoOffset, Sign(OpenParen), First, Sign(CloseParen)] { rd, first }
                     (Instr::Lr { ann, rd, base: first }) { dest: rd.named(), sources: [first.named(), None], address: first.named(), data: None, carries: false };
                 (Op::Sc(ann)) [Rd, Sign(Comma), Second, Sign(Comma), NoOffset, Sign(OpenParen), First, Sign(CloseParen)] { rd, second, first }

@@ -72,7 +72,8 @@ pub enum AmoOp {
     Maxu,
 }
 
-/// The ordering annotations of an lr.w, an sc.w or an AMO: its bits aq and rl.
+/// The ordering annotations of a memory instruction: its bits aq and rl (those of lw and sw are of the extension
+/// Zalasr).
 #[derive(Clone, Copy, PartialEq, Eq)]
 pub struct Ann {
     pub acquire: bool,
@@ -88,8 +89,8 @@ pub enum Op {
     Shift(ShiftOp),
     Lui,
     Li,
-    Lw,
-    Sw,
+    Lw(Ann),
+    Sw(Ann),
     /// `lr.w`.
     Lr(Ann),
     /// `sc.w`.
@@ -168,8 +169,6 @@ macro_rules! names {
         $use! { [$($arguments)*]
             "lui" => Op::Lui,
             "li" => Op::Li,
-            "lw" => Op::Lw,
-            "sw" => Op::Sw,
             "fence" => Op::Fence,
             "fence.tso" => Op::FenceTso,
             "fence.i" => Op::FenceI,
@@ -216,6 +215,8 @@ macro_rules! names {
     };
     (plain_of $use:ident $($arguments:tt)*) => {
         $use! { [$($arguments)*] (Ann { acquire: false, release: false })
+            "lw" => Lw(),
+            "sw" => Sw(),
             "lr.w" => Lr(),
             "sc.w" => Sc(),
             "amoswap.w" => Amo(AmoOp::Swap),
@@ -231,6 +232,8 @@ macro_rules! names {
     };
     (acquiring_of $use:ident $($arguments:tt)*) => {
         $use! { [$($arguments)*] (Ann { acquire: true, release: false })
+            "lw.aq" => Lw(),
+            "sw.aq" => Sw(),
             "lr.w.aq" => Lr(),
             "sc.w.aq" => Sc(),
             "amoswap.w.aq" => Amo(AmoOp::Swap),
@@ -246,6 +249,8 @@ macro_rules! names {
     };
     (releasing_of $use:ident $($arguments:tt)*) => {
         $use! { [$($arguments)*] (Ann { acquire: false, release: true })
+            "lw.rl" => Lw(),
+            "sw.rl" => Sw(),
             "lr.w.rl" => Lr(),
             "sc.w.rl" => Sc(),
             "amoswap.w.rl" => Amo(AmoOp::Swap),
@@ -261,6 +266,8 @@ macro_rules! names {
     };
     (both_of $use:ident $($arguments:tt)*) => {
         $use! { [$($arguments)*] (Ann { acquire: true, release: true })
+            "lw.aqrl" => Lw(),
+            "sw.aqrl" => Sw(),
             "lr.w.aqrl" => Lr(),
             "sc.w.aqrl" => Sc(),
             "amoswap.w.aqrl" => Amo(AmoOp::Swap),
@@ -276,6 +283,8 @@ macro_rules! names {
     };
     (both_apart_of $use:ident $($arguments:tt)*) => {
         $use! { [$($arguments)*] (Ann { acquire: true, release: true })
+            "lw.aq.rl" => Lw(),
+            "sw.aq.rl" => Sw(),
             "lr.w.aq.rl" => Lr(),
             "sc.w.aq.rl" => Sc(),
             "amoswap.w.aq.rl" => Amo(AmoOp::Swap),
@@ -522,7 +531,7 @@ impl Op {
             Op::Register(_) => register_text(self),
             Op::Immediate(_) | Op::Shift(_) => immediate_text(self),
             Op::Branch(_) | Op::BranchZero(_) | Op::Jal | Op::J => branch_text(self),
-            Op::Lr(ann) | Op::Sc(ann) | Op::Amo(_, ann) => match ann {
+            Op::Lw(ann) | Op::Sw(ann) | Op::Lr(ann) | Op::Sc(ann) | Op::Amo(_, ann) => match ann {
                 Ann {
                     acquire: false,
                     release: false,

@@ -26,7 +26,7 @@ pub enum Refused {
     Form,
     /// They begin with a word that is no name of the table.
     Name,
-    /// `lr.w.rl` or `sc.w.aq`, which this profile leaves out, with operands of the right shape.
+    /// `lr.w.rl`, `lw.rl`, `sc.w.aq` or `sw.aq`, which this profile leaves out, with operands of the right shape.
     Suffix,
 }
 
@@ -34,8 +34,8 @@ fn is_refused(op: Op) -> bool
     ensures { result ≡ is_refused op }
 {
     match op {
-        Op::Lr(ann) => !ann.acquire && ann.release,
-        Op::Sc(ann) => ann.acquire && !ann.release,
+        Op::Lw(ann) | Op::Lr(ann) => !ann.acquire && ann.release,
+        Op::Sw(ann) | Op::Sc(ann) => ann.acquire && !ann.release,
         _ => false,
     }
 }

@@ -35,8 +35,8 @@ fn read_text<'a>(text: &'a str) -> Result<Parsed<'a>, Refused>
 /// The instruction that a text spells, without labels in front; comments and line ends are blanks. Takes no memory;
 /// linear in the text. Its faults have line 1: `Syntax` where a comment isn't closed or a character belongs to no
 /// token, whatever else is wrong, where the text doesn't begin with a word, or where the table has its first word with
-/// other operands; `UnknownInstr` where the first word is no name of the table; `BadAnnotation` for `lr.w.rl` and
-/// `sc.w.aq` with operands of the right shape.
+/// other operands; `UnknownInstr` where the first word is no name of the table; `BadAnnotation` for `lr.w.rl`,
+/// `lw.rl`, `sc.w.aq` and `sw.aq` with operands of the right shape.
 pub fn read_instr<'a>(text: &'a str) -> Result<Parsed<'a>, Fault>
     ensures reading { IsReading text.now (text_outcome result) }
     // It is one of the table: operands in range, annotations that the table lists.

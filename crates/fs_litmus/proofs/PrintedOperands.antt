@@ -62,8 +62,8 @@ are_small (instr.Immediate o d a z) h = record { imm = h.2; constant = omega ari
 are_small (instr.Shift o d a n) h = let low = h.2 in record { imm = omega arith; constant = omega (arith, low) }
 are_small (instr.Lui d n) h = let low = h.1 in record { imm = omega arith; constant = omega (arith, low) }
 are_small (instr.Li d n) h = record { imm = omega arith; constant = h.1 }
-are_small (instr.Lw d a z) h = record { imm = h.2; constant = omega arith }
-are_small (instr.Sw v a z) h = record { imm = h.2; constant = omega arith }
+are_small (instr.Lw ann d a z) h = record { imm = h.3; constant = omega arith }
+are_small (instr.Sw ann v a z) h = record { imm = h.3; constant = omega arith }
 are_small (instr.Lr ann d a) h = record { imm = omega arith; constant = omega arith }
 are_small (instr.Sc ann d v a) h = record { imm = omega arith; constant = omega arith }
 are_small (instr.Amo o ann d v a) h = record { imm = omega arith; constant = omega arith }

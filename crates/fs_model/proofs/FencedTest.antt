@@ -78,8 +78,8 @@ module _ (p : List Entry) (hart : ℕ) where
   moved_target (instr.Shift o rd a n) target e = absurd (cc)
   moved_target (instr.Lui rd n) target e = absurd (cc)
   moved_target (instr.Li rd n) target e = absurd (cc)
-  moved_target (instr.Lw rd a z) target e = absurd (cc)
-  moved_target (instr.Sw v a z) target e = absurd (cc)
+  moved_target (instr.Lw ann rd a z) target e = absurd (cc)
+  moved_target (instr.Sw ann v a z) target e = absurd (cc)
   moved_target (instr.Lr ann rd a) target e = absurd (cc)
   moved_target (instr.Sc ann rd v a) target e = absurd (cc)
   moved_target (instr.Amo o ann rd v a) target e = absurd (cc)
@@ -157,8 +157,8 @@ module _ (p : List Entry) (hart : ℕ) where
   moved_of_table (instr.Shift o rd a n) h low = h
   moved_of_table (instr.Lui rd n) h low = h
   moved_of_table (instr.Li rd n) h low = h
-  moved_of_table (instr.Lw rd a z) h low = h
-  moved_of_table (instr.Sw v a z) h low = h
+  moved_of_table (instr.Lw ann rd a z) h low = h
+  moved_of_table (instr.Sw ann v a z) h low = h
   moved_of_table (instr.Lr ann rd a) h low = h
   moved_of_table (instr.Sc ann rd v a) h low = h
   moved_of_table (instr.Amo o ann rd v a) h low = h

@@ -24,9 +24,9 @@ declared_sc n h s pair e there =
     subst (IsDeclared n) (sym at.1) (pair at.0 (sym e ∙ at.1))
 
 step_declared : (n : ℕ) (h : Hart) (s : Step) (i : Instr) → Accesses n h s i → HasDeclaredPair n h → is_some s.address ≡ true → IsDeclared n s.address
-step_declared n h s (Lw rd base offset) a pair there = a.0.1
+step_declared n h s (Lw ann rd base offset) a pair there = a.0.1
 step_declared n h s (Lr ann rd base) a pair there = a.0.1
-step_declared n h s (Sw value base offset) a pair there = a.0.1
+step_declared n h s (Sw ann value base offset) a pair there = a.0.1
 step_declared n h s (Amo op ann rd value base) a pair there = a.0.1
 step_declared n h s (Sc ann rd value base) a pair there = elim a [
   | inl done ↦ declared_sc n h s pair done.1 there

@@ -1,6 +1,7 @@
 -- The small test of the unit tests is bounded.
 use Rattle.std.proofs.Common.{◌≡◌, ℕ, ◌≤◌, List, [], ◌∷◌, true, pos, codes, length, replicate, refl, arith}
 use Rattle.std.proofs.lemmas.Bool.Decides.{nat_tests}
+use Rattle.fs_instr.specs.Names.{plain}
 use Rattle.fs_instr.specs.declared.instr.Instr.{Instr}
 use Rattle.fs_instr.specs.declared.instr.Instr.TheVariants.{Lw, Sw, Branch}
 use Rattle.fs_instr.specs.declared.names.BranchOp.TheVariants.{Bne}
@@ -12,7 +13,7 @@ use Rattle.fs_model.proofs.Tested.{All-nil, All-cons, all_reach, GoesForward-all
 
 -- lw, a branch, sw
 abbrev pub branching_code : ℕ → List Instr
-branching_code target = Lw 0 0 (pos 0) ∷ Branch Bne 0 0 target ∷ Sw 0 0 (pos 0) ∷ []
+branching_code target = Lw plain 0 0 (pos 0) ∷ Branch Bne 0 0 target ∷ Sw plain 0 0 (pos 0) ∷ []
 
 reaches_later : (target : ℕ) → 2 ≤ target → target ≤ 3 → all_reach 3 0 (branching_code target) ≡ true
 reaches_later target low high = grind (arith, nat_tests)

@@ -62,9 +62,9 @@ made_once n h (Jump target) c s u m v = quiet h s u (twins n h _ c s u m v) m.ac
 made_once n h (Fence before after) c s u m v = quiet h s u (twins n h _ c s u m v) m.access v.access
 made_once n h FenceTso c s u m v = quiet h s u (twins n h _ c s u m v) m.access v.access
 made_once n h FenceI c s u m v = quiet h s u (twins n h _ c s u m v) m.access v.access
-made_once n h (Lw rd base offset) c s u m v = loads n h s u (twins n h _ c s u m v) m.access.0 v.access.0 (m.chosen ∙ sym v.chosen) m.access.2 v.access.2
+made_once n h (Lw ann rd base offset) c s u m v = loads n h s u (twins n h _ c s u m v) m.access.0 v.access.0 (m.chosen ∙ sym v.chosen) m.access.2 v.access.2
 made_once n h (Lr ann rd base) c s u m v = loads n h s u (twins n h _ c s u m v) m.access.0 v.access.0 (m.chosen ∙ sym v.chosen) m.access.2 v.access.2
-made_once n h (Sw value base offset) c s u m v =
+made_once n h (Sw ann value base offset) c s u m v =
     let t = twins n h _ c s u m v in
     let e = m.access.1 ∙ sym v.access.1 in
     same_step s u t.at t.instr (same_place n h s u t m.access.0 v.access.0) e (stored_of h s u t e m.access.2 v.access.2)

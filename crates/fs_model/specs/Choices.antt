@@ -22,7 +22,7 @@ is_choosing i = is_loading i || is_sc i
 
 -- the choice that a step of the instruction makes, and those of a run
 abbrev pub choice_by : Instr → Step → Option Choice
-choice_by (Lw rd base offset) s = option_map Word s.loaded
+choice_by (Lw ann rd base offset) s = option_map Word s.loaded
 choice_by (Lr ann rd base) s = option_map Word s.loaded
 choice_by (Amo op ann rd value base) s = option_map Word s.loaded
 choice_by (Sc ann rd value base) s = Some (if is_some s.stored then Success else Failure)

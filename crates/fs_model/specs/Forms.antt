@@ -7,18 +7,18 @@ use Rattle.fs_instr.specs.declared.instr.Instr.TheVariants.{Lw, Sw, Lr, Sc, Amo}
 
 -- it loads a word: lw, lr.w or an AMO
 abbrev pub is_loading : Instr → Bool
-is_loading (Lw rd base offset) = true
+is_loading (Lw ann rd base offset) = true
 is_loading (Lr ann rd base) = true
 is_loading (Amo op ann rd value base) = true
 is_loading _ = false
 
 -- it can store a word: sw, sc.w or an AMO
 abbrev pub is_storing : Instr → Bool
-is_storing (Sw value base offset) = true
+is_storing (Sw ann value base offset) = true
 is_storing (Sc ann rd value base) = true
 is_storing (Amo op ann rd value base) = true
 is_storing _ = false
 
 abbrev pub is_sw : Instr → Bool
-is_sw (Sw value base offset) = true
+is_sw (Sw ann value base offset) = true
 is_sw _ = false

@@ -58,9 +58,9 @@ Succeeds h s = (s.address ≡ address_in h.registers s.instr) × (s.address ≡ 
 
 -- the access of a step, by its instruction, in a program with n locations
 abbrev pub Accesses : ℕ → Hart → Step → Instr → Type 0
-Accesses n h s (Lw rd base offset) = IsAtLocation n h s × IsWord s.loaded × (s.stored ≡ None)
+Accesses n h s (Lw ann rd base offset) = IsAtLocation n h s × IsWord s.loaded × (s.stored ≡ None)
 Accesses n h s (Lr ann rd base) = IsAtLocation n h s × IsWord s.loaded × (s.stored ≡ None)
-Accesses n h s (Sw value base offset) = IsAtLocation n h s × (s.loaded ≡ None) × StoresItsWord h s
+Accesses n h s (Sw ann value base offset) = IsAtLocation n h s × (s.loaded ≡ None) × StoresItsWord h s
 Accesses n h s (Amo op ann rd value base) = IsAtLocation n h s × IsWord s.loaded × StoresItsWord h s
 Accesses n h s (Sc ann rd value base) = Succeeds h s ⊎ AccessesNothing s
 Accesses n h s _ = AccessesNothing s

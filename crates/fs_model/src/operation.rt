@@ -99,7 +99,11 @@ impl Operation {
         ensures { result ≡ annotation self.now.instr }
     {
         match self.instr {
-            Instr::Lr { ann, .. } | Instr::Sc { ann, .. } | Instr::Amo { ann, .. } => ann,
+            Instr::Lw { ann, .. }
+            | Instr::Sw { ann, .. }
+            | Instr::Lr { ann, .. }
+            | Instr::Sc { ann, .. }
+            | Instr::Amo { ann, .. } => ann,
             _ => Ann {
                 acquire: false,
                 release: false,

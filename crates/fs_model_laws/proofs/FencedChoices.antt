@@ -28,8 +28,8 @@ module _ (p : List Entry) (hart : ℕ) where
   choice_there s (Shift op rd first amount) = refl
   choice_there s (Lui rd upper) = refl
   choice_there s (Li rd word) = refl
-  choice_there s (Lw rd base offset) = refl
-  choice_there s (Sw value base offset) = refl
+  choice_there s (Lw ann rd base offset) = refl
+  choice_there s (Sw ann value base offset) = refl
   choice_there s (Lr ann rd base) = refl
   choice_there s (Sc ann rd value base) = refl
   choice_there s (Amo op ann rd value base) = refl

@@ -91,8 +91,8 @@ module _ (p : List Entry) (hart : ℕ) where
   next_moved x at (Shift op rd first amount) = plain_next at
   next_moved x at (Lui rd upper) = plain_next at
   next_moved x at (Li rd word) = plain_next at
-  next_moved x at (Lw rd base offset) = plain_next at
-  next_moved x at (Sw value base offset) = plain_next at
+  next_moved x at (Lw ann rd base offset) = plain_next at
+  next_moved x at (Sw ann value base offset) = plain_next at
   next_moved x at (Lr ann rd base) = plain_next at
   next_moved x at (Sc ann rd value base) = plain_next at
   next_moved x at (Amo op ann rd value base) = plain_next at
@@ -140,8 +140,8 @@ module _ (p : List Entry) (hart : ℕ) where
   paired_by h s (Shift op rd first amount) = refl
   paired_by h s (Lui rd upper) = refl
   paired_by h s (Li rd word) = refl
-  paired_by h s (Lw rd base offset) = refl
-  paired_by h s (Sw value base offset) = refl
+  paired_by h s (Lw ann rd base offset) = refl
+  paired_by h s (Sw ann value base offset) = refl
   paired_by h s (Lr ann rd base) = refl
   paired_by h s (Sc ann rd value base) = refl
   paired_by h s (Amo op ann rd value base) = refl
@@ -208,8 +208,8 @@ module _ (p : List Entry) (hart : ℕ) where
   accesses_there n h s (Shift op rd first amount) a = a
   accesses_there n h s (Lui rd upper) a = a
   accesses_there n h s (Li rd word) a = a
-  accesses_there n h s (Lw rd base offset) a = (location_there n h s a.0, a.1, a.2)
-  accesses_there n h s (Sw value base offset) a = (location_there n h s a.0, a.1, stores_there h s a.2)
+  accesses_there n h s (Lw ann rd base offset) a = (location_there n h s a.0, a.1, a.2)
+  accesses_there n h s (Sw ann value base offset) a = (location_there n h s a.0, a.1, stores_there h s a.2)
   accesses_there n h s (Lr ann rd base) a = (location_there n h s a.0, a.1, a.2)
   accesses_there n h s (Sc ann rd value base) a = elim a [
     | inl x ↦ inl (succeeds_there h s x)
@@ -229,8 +229,8 @@ module _ (p : List Entry) (hart : ℕ) where
   accesses_back n h s (Shift op rd first amount) a = a
   accesses_back n h s (Lui rd upper) a = a
   accesses_back n h s (Li rd word) a = a
-  accesses_back n h s (Lw rd base offset) a = (location_back n h s a.0, a.1, a.2)
-  accesses_back n h s (Sw value base offset) a = (location_back n h s a.0, a.1, stores_back h s a.2)
+  accesses_back n h s (Lw ann rd base offset) a = (location_back n h s a.0, a.1, a.2)
+  accesses_back n h s (Sw ann value base offset) a = (location_back n h s a.0, a.1, stores_back h s a.2)
   accesses_back n h s (Lr ann rd base) a = (location_back n h s a.0, a.1, a.2)
   accesses_back n h s (Sc ann rd value base) a = elim a [
     | inl x ↦ inl (succeeds_back h s x)

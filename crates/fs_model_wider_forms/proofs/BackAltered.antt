@@ -54,8 +54,8 @@ storing x lo (Immediate op rd first immediate) e = e
 storing x lo (Shift op rd first amount) e = e
 storing x lo (Lui rd upper) e = e
 storing x lo (Li rd word) e = e
-storing x lo (Lw rd base offset) e = e
-storing x lo (Sw value base offset) e = refl
+storing x lo (Lw ann rd base offset) e = e
+storing x lo (Sw ann value base offset) e = refl
 storing x lo (Lr ann rd base) e = e
 storing x lo (Sc ann rd value base) e = refl
 storing x lo (Amo op ann rd value base) e = refl
@@ -92,9 +92,9 @@ module _ (n : ℕ) (h g : Hart) (s : Step) (keep : Bool) (word : ℕ) (is_word :
   accesses (Shift op rd first amount) e a = nothing a
   accesses (Lui rd upper) e a = nothing a
   accesses (Li rd w) e a = nothing a
-  accesses (Lw rd base offset) e a =
+  accesses (Lw ann rd base offset) e a =
       (at_location a.0, load_word keep word s.loaded is_word a.1, no_store _ s.stored a.2)
-  accesses (Sw value base offset) e a = (at_location a.0, no_load keep word s.loaded a.1, stores a.2 (ap is_storing e))
+  accesses (Sw ann value base offset) e a = (at_location a.0, no_load keep word s.loaded a.1, stores a.2 (ap is_storing e))
   accesses (Lr ann rd base) e a = (at_location a.0, load_word keep word s.loaded is_word a.1, no_store _ s.stored a.2)
   accesses (Sc ann rd value base) e a = elim a [
     | inl b ↦ inl (b.0 ∙ place, b.1 ∙ paired, no_load keep word s.loaded b.2, stores b.3 (ap is_storing e))
@@ -122,8 +122,8 @@ module _ (n : ℕ) (h g : Hart) (s : Step) (keep : Bool) (word : ℕ) (is_word :
   store_kept (Shift op rd first amount) e a = kept_none a.2
   store_kept (Lui rd upper) e a = kept_none a.2
   store_kept (Li rd w) e a = kept_none a.2
-  store_kept (Lw rd base offset) e a = kept_none a.2
-  store_kept (Sw value base offset) e a = kept_some a.2 (ap is_storing e)
+  store_kept (Lw ann rd base offset) e a = kept_none a.2
+  store_kept (Sw ann value base offset) e a = kept_some a.2 (ap is_storing e)
   store_kept (Lr ann rd base) e a = kept_none a.2
   store_kept (Sc ann rd value base) e a = elim a [
     | inl b ↦ kept_some b.3 (ap is_storing e)
@@ -154,8 +154,8 @@ module _ (n : ℕ) (h g : Hart) (s : Step) (keep : Bool) (word : ℕ) (is_word :
       itself (Shift op rd first amount) e a = gone a.2
       itself (Lui rd upper) e a = gone a.2
       itself (Li rd w) e a = gone a.2
-      itself (Lw rd base offset) e a = gone a.2
-      itself (Sw value base offset) e a = a.2
+      itself (Lw ann rd base offset) e a = gone a.2
+      itself (Sw ann value base offset) e a = a.2
       itself (Lr ann rd base) e a = gone a.2
       itself (Sc ann rd value base) e a = elim a [ inl c ↦ c.3 | inr c ↦ gone c.2 ]
       itself (Amo op ann rd value base) e a = a.2

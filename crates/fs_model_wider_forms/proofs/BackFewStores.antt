@@ -44,8 +44,8 @@ goes code at x (Immediate op rd first immediate) l f = following code at l
 goes code at x (Shift op rd first amount) l f = following code at l
 goes code at x (Lui rd upper) l f = following code at l
 goes code at x (Li rd word) l f = following code at l
-goes code at x (Lw rd base offset) l f = following code at l
-goes code at x (Sw value base offset) l f = following code at l
+goes code at x (Lw ann rd base offset) l f = following code at l
+goes code at x (Sw ann value base offset) l f = following code at l
 goes code at x (Lr ann rd base) l f = following code at l
 goes code at x (Sc ann rd value base) l f = following code at l
 goes code at x (Amo op ann rd value base) l f = following code at l
@@ -66,7 +66,7 @@ goes_on code at x i forward e =
 
 only_storing : (n : ℕ) (h : Hart) (s : Step) (i : Instr) → Accesses n h s i → is_some s.stored ≡ true
     → is_storing i ≡ true
-only_storing n h s (Sw value base offset) a there = refl
+only_storing n h s (Sw ann value base offset) a there = refl
 only_storing n h s (Sc ann rd value base) a there = refl
 only_storing n h s (Amo op ann rd value base) a there = refl
 only_storing n h s _ a there = absurd (none_there s.stored a.2 there)

@@ -39,8 +39,8 @@ none_fits : (o : Option ℕ) → o ≡ None → FitsIfThere o
 none_fits o e = subst FitsIfThere (sym e) tt
 
 pub load_fits : (n : ℕ) (h : Hart) (s : Step) (i : Instr) → Accesses n h s i → FitsIfThere s.loaded
-load_fits n h s (Lw rd base offset) a = word_fits s.loaded a.1
-load_fits n h s (Sw value base offset) a = none_fits s.loaded a.1
+load_fits n h s (Lw ann rd base offset) a = word_fits s.loaded a.1
+load_fits n h s (Sw ann value base offset) a = none_fits s.loaded a.1
 load_fits n h s (Lr ann rd base) a = word_fits s.loaded a.1
 load_fits n h s (Sc ann rd value base) a = elim a [ inl b ↦ none_fits s.loaded b.2 | inr b ↦ none_fits s.loaded b.1 ]
 load_fits n h s (Amo op ann rd value base) a = word_fits s.loaded a.1
@@ -122,8 +122,8 @@ module _ (laws : WordLaws) (n : ℕ) (few : n ≤ most_locations) (g : Hart) (s 
   accesses (Shift op rd first amount) e a = nothing a
   accesses (Lui rd upper) e a = nothing a
   accesses (Li rd w) e a = nothing a
-  accesses (Lw rd base offset) e a = (at_location a.0, load_word lo s.loaded loaded fits a.1, no_store _ s.stored a.2)
-  accesses (Sw value base offset) e a = (at_location a.0, no_load lo s.loaded loaded a.1, stores a.2 (ap is_storing e))
+  accesses (Lw ann rd base offset) e a = (at_location a.0, load_word lo s.loaded loaded fits a.1, no_store _ s.stored a.2)
+  accesses (Sw ann value base offset) e a = (at_location a.0, no_load lo s.loaded loaded a.1, stores a.2 (ap is_storing e))
   accesses (Lr ann rd base) e a = (at_location a.0, load_word lo s.loaded loaded fits a.1, no_store _ s.stored a.2)
   accesses (Sc ann rd value base) e a = elim a [
     | inl b ↦ (
@@ -153,8 +153,8 @@ module _ (laws : WordLaws) (n : ℕ) (few : n ≤ most_locations) (g : Hart) (s 
       by_form (Shift op rd first amount) e a = gone a.2
       by_form (Lui rd upper) e a = gone a.2
       by_form (Li rd w) e a = gone a.2
-      by_form (Lw rd base offset) e a = gone a.2
-      by_form (Sw value base offset) e a = a.2
+      by_form (Lw ann rd base offset) e a = gone a.2
+      by_form (Sw ann value base offset) e a = a.2
       by_form (Lr ann rd base) e a = gone a.2
       by_form (Sc ann rd value base) e a = elim a [ inl c ↦ c.3 | inr c ↦ gone c.2 ]
       by_form (Amo op ann rd value base) e a = a.2

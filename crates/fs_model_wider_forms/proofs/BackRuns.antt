@@ -208,7 +208,7 @@ module _ (laws : WordLaws) (n : ℕ) (code : List Instr) (of_table : All IsOfTab
       gone q = subst FitsIfThere (sym q) tt
 
       by_form : (i : Instr) → Accesses n h s i → FitsIfThere s.stored
-      by_form (Sw value base offset) a = fits a.2
+      by_form (Sw ann value base offset) a = fits a.2
       by_form (Sc ann rd value base) a = elim a [ inl b ↦ fits b.3 | inr b ↦ gone b.2 ]
       by_form (Amo op ann rd value base) a = fits a.2
       by_form _ a = gone a.2

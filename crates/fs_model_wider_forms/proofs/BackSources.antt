@@ -33,7 +33,7 @@ both_amo n h u i a l s = by_form i a
     no_word e = absurd (false≢true (sym (ap is_some e) ∙ l))
 
     by_form : (i : Instr) → Accesses n h u i → is_amo i ≡ true
-    by_form (Sw value base offset) a = no_word a.1
+    by_form (Sw ann value base offset) a = no_word a.1
     by_form (Sc ann rd value base) a = elim a [ inl b ↦ no_word b.2 | inr b ↦ no_store b.2 ]
     by_form (Amo op ann rd value base) a = refl
     by_form _ a = no_store a.2

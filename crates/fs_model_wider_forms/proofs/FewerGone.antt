@@ -34,9 +34,9 @@ amo_alone n h s (Jump target) a loads stores = absurd (none_there s.stored a.2 s
 amo_alone n h s (Fence before after) a loads stores = absurd (none_there s.stored a.2 stores)
 amo_alone n h s FenceTso a loads stores = absurd (none_there s.stored a.2 stores)
 amo_alone n h s FenceI a loads stores = absurd (none_there s.stored a.2 stores)
-amo_alone n h s (Lw rd base offset) a loads stores = absurd (none_there s.stored a.2 stores)
+amo_alone n h s (Lw ann rd base offset) a loads stores = absurd (none_there s.stored a.2 stores)
 amo_alone n h s (Lr ann rd base) a loads stores = absurd (none_there s.stored a.2 stores)
-amo_alone n h s (Sw value base offset) a loads stores = absurd (none_there s.loaded a.1 loads)
+amo_alone n h s (Sw ann value base offset) a loads stores = absurd (none_there s.loaded a.1 loads)
 amo_alone n h s (Amo op ann rd value base) a loads stores = refl
 amo_alone n h s (Sc ann rd value base) a loads stores = elim a [
   | inl success ↦ absurd (none_there s.loaded success.2 loads)

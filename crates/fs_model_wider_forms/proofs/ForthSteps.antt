@@ -42,9 +42,9 @@ fits_word None h = tt
 fits_word (Some w) h = h
 
 loaded_fits : (n : ℕ) (h : Hart) (s : Step) (i : Instr) → narrow.Accesses n h s i → FitsIfThere s.loaded
-loaded_fits n h s (Lw rd base offset) a = fits_word s.loaded a.1
+loaded_fits n h s (Lw ann rd base offset) a = fits_word s.loaded a.1
 loaded_fits n h s (Lr ann rd base) a = fits_word s.loaded a.1
-loaded_fits n h s (Sw value base offset) a = fits_none s.loaded a.1
+loaded_fits n h s (Sw ann value base offset) a = fits_none s.loaded a.1
 loaded_fits n h s (Amo op ann rd value base) a = fits_word s.loaded a.1
 loaded_fits n h s (Sc ann rd value base) a = elim a [
   | inl x ↦ fits_none s.loaded x.2
@@ -90,9 +90,9 @@ module _ (laws : WordLaws) (n : ℕ) (low : n ≤ most_locations) (h : Hart) (s 
   result = words.result_in h.registers s.loaded s.stored s.instr
 
   stored_by : (i : Instr) → narrow.Accesses n h s i → FitsIfThere s.stored
-  stored_by (Lw rd base offset) a = fits_none s.stored a.2
+  stored_by (Lw ann rd base offset) a = fits_none s.stored a.2
   stored_by (Lr ann rd base) a = fits_none s.stored a.2
-  stored_by (Sw value base offset) a =
+  stored_by (Sw ann value base offset) a =
       subst FitsIfThere (sym a.2) (laws.stored h.registers s.loaded s.instr sound.words loads)
   stored_by (Amo op ann rd value base) a =
       subst FitsIfThere (sym a.2) (laws.stored h.registers s.loaded s.instr sound.words loads)
@@ -159,9 +159,9 @@ module _ (laws : WordLaws) (n : ℕ) (low : n ≤ most_locations) (h : Hart) (s 
 
     by_form : (i : Instr) → s.instr ≡ i → narrow.Accesses n h s i
         → wide.Accesses n (extended_hart h) (extended_step s) i
-    by_form (Lw rd base offset) e a = (location_there a.0, doubleword_there s.loaded a.1, none_there s.stored a.2)
+    by_form (Lw ann rd base offset) e a = (location_there a.0, doubleword_there s.loaded a.1, none_there s.stored a.2)
     by_form (Lr ann rd base) e a = (location_there a.0, doubleword_there s.loaded a.1, none_there s.stored a.2)
-    by_form (Sw value base offset) e a = (location_there a.0, none_there s.loaded a.1, stores_there a.2)
+    by_form (Sw ann value base offset) e a = (location_there a.0, none_there s.loaded a.1, stores_there a.2)
     by_form (Amo op ann rd value base) e a = (location_there a.0, doubleword_there s.loaded a.1, stores_there a.2)
     by_form (Sc ann rd value base) e a = elim a [
       | inl x ↦ inl (success_there (words.read h.registers base) (ap (words.address_in h.registers) e) x)

@@ -75,8 +75,8 @@ module _ (n : ℕ) (h g : Hart) (s : Step) (place : address_in h.registers s.ins
   accesses_there (Shift op rd first amount) p a = a
   accesses_there (Lui rd upper) p a = a
   accesses_there (Li rd w) p a = a
-  accesses_there (Lw rd base offset) p a = (at_location a.0, a.1, a.2)
-  accesses_there (Sw value base offset) p a = (at_location a.0, a.1, a.2 ∙ word)
+  accesses_there (Lw ann rd base offset) p a = (at_location a.0, a.1, a.2)
+  accesses_there (Sw ann value base offset) p a = (at_location a.0, a.1, a.2 ∙ word)
   accesses_there (Lr ann rd base) p a = (at_location a.0, a.1, a.2)
   accesses_there (Sc ann rd value base) p a = elim a [
     | inl b ↦ inl (b.0 ∙ place, b.1 ∙ p refl, b.2, b.3 ∙ word)
@@ -96,8 +96,8 @@ paired_same h g s (Immediate op rd first immediate) p = p refl
 paired_same h g s (Shift op rd first amount) p = p refl
 paired_same h g s (Lui rd upper) p = p refl
 paired_same h g s (Li rd word) p = p refl
-paired_same h g s (Lw rd base offset) p = p refl
-paired_same h g s (Sw value base offset) p = p refl
+paired_same h g s (Lw ann rd base offset) p = p refl
+paired_same h g s (Sw ann value base offset) p = p refl
 paired_same h g s (Lr ann rd base) p = refl
 paired_same h g s (Sc ann rd value base) p = refl
 paired_same h g s (Amo op ann rd value base) p = p refl

@@ -73,8 +73,8 @@ module _ (n : ℕ) (h : Hart) (s : Step) where
   succeeds_back a = (a.0 ∙ same_address h.registers s.instr, a.1, a.2, stores_back a.3)
 
   accesses_there : (i : Instr) → Accesses n h s i → Accesses n h (bare_step s) (bare i)
-  accesses_there (Lw rd base offset) a = (location_there a.0, a.1, a.2)
-  accesses_there (Sw value base offset) a = (location_there a.0, a.1, stores_there a.2)
+  accesses_there (Lw ann rd base offset) a = (location_there a.0, a.1, a.2)
+  accesses_there (Sw ann value base offset) a = (location_there a.0, a.1, stores_there a.2)
   accesses_there (Lr ann rd base) a = (location_there a.0, a.1, a.2)
   accesses_there (Sc ann rd value base) a = elim a [
     | inl x ↦ inl (succeeds_there x)
@@ -86,8 +86,8 @@ module _ (n : ℕ) (h : Hart) (s : Step) where
   accesses_there _ a = a
 
   accesses_back : (i : Instr) → Accesses n h (bare_step s) (bare i) → Accesses n h s i
-  accesses_back (Lw rd base offset) a = (location_back a.0, a.1, a.2)
-  accesses_back (Sw value base offset) a = (location_back a.0, a.1, stores_back a.2)
+  accesses_back (Lw ann rd base offset) a = (location_back a.0, a.1, a.2)
+  accesses_back (Sw ann value base offset) a = (location_back a.0, a.1, stores_back a.2)
   accesses_back (Lr ann rd base) a = (location_back a.0, a.1, a.2)
   accesses_back (Sc ann rd value base) a = elim a [
     | inl x ↦ inl (succeeds_back x)

@@ -4,6 +4,7 @@ use Rattle.std.specs.Prelude.{All, is_some, pos, slice_get, option_and_then}
 use Rattle.std.proofs.lemmas.Bool.{or_from, eqb-true, false≢true, false_from_ne_true}
 use Rattle.std.proofs.lemmas.List.Elements.{All-head, All-tail}
 use Rattle.std.proofs.lemmas.Option.{same_Some}
+use Rattle.fs_instr.specs.Names.{plain}
 use Rattle.fs_instr.specs.declared.names.Ann.{Ann}
 use Rattle.fs_instr.specs.declared.names.AmoOp.TheVariants.{Swap}
 use Rattle.fs_instr.specs.declared.names.BranchOp.TheVariants.{Bne}
@@ -37,8 +38,8 @@ named_is a r e = elim (named_cases a) [
 not_named : (a b r : ℕ) → a ≢ b → is_same (named a) (Some r) ≡ true → is_same (named b) (Some r) ≡ false
 not_named a b r other e = false_from_ne_true _ (λ w. other (named_is a r e ∙ sym (named_is b r w)))
 
-fresh_load : (rd base : ℕ) (offset : ℤ) → rd ≢ base → IsFresh (Lw rd base offset)
-fresh_load rd base offset other =
+fresh_load : (ann : Ann) (rd base : ℕ) (offset : ℤ) → rd ≢ base → IsFresh (Lw ann rd base offset)
+fresh_load ann rd base offset other =
     record { registers = λ r w. or_from _ _ (not_named rd base r other w) refl; unpaired = refl }
 
 fresh_swap : (ann : Ann) (rd value base : ℕ) → rd ≢ base → rd ≢ value → IsFresh (Amo Swap ann rd value base)
@@ -81,8 +82,8 @@ module _ (n : ℕ) (code : List Instr) (start : Hart) (from_start : start.at ≡
     (branch : target_at code (hart_after start front).at ≡ Some k) where
   behind_load : LoadsAt code k → EndsIdleTurn asked start front s rest
   behind_load l =
-      let first = Lw l.rd l.base l.offset in
-      let fresh = fresh_load l.rd l.base l.offset l.other in
+      let first = Lw l.ann l.rd l.base l.offset in
+      let fresh = fresh_load l.ann l.rd l.base l.offset l.other in
       let b : Before n code start front s rest steps ends k first l.load fresh l.whole own back branch from_start =
       came_from n code start front s rest steps ends k first l.load fresh l.whole own back branch from_start in
       let access : Accesses n (hart_after start b.before) b.q first =
@@ -215,6 +216,7 @@ lock_target ann (suc (suc (suc at))) target e = absurd (let none : None ≡ Some
 
 flag_loads : LoadsAt waits_for_a_flag 0
 flag_loads = record {
+  ann = plain;
   rd = 5;
   base = 6;
   offset = pos 0;

@@ -3,6 +3,7 @@ use Rattle.std.proofs.Common.{◌≡◌, ◌⊎◌, inl, inr, ℕ, zero, suc, �
 use Rattle.std.specs.Prelude.{All, pos, slice_get}
 use Rattle.std.proofs.lemmas.Bool.{or_from, false≢true}
 use Rattle.std.proofs.lemmas.Option.{same_Some, slice_get-get_or}
+use Rattle.fs_instr.specs.Names.{plain}
 use Rattle.fs_instr.specs.declared.names.Ann.{Ann}
 use Rattle.fs_instr.specs.declared.names.AmoOp.TheVariants.{Swap}
 use Rattle.fs_instr.specs.declared.names.BranchOp.TheVariants.{Bne}
@@ -77,12 +78,12 @@ module _ (taken : ℕ) (t : Test) (p : List Entry) (e : Execution) (is : IsExecu
 data At (ann : Ann) (i : Instr) : Type 0 where
   Takes : (is : i ≡ Amo Swap ann 5 9 6) → At ann i
   Again : (is : i ≡ Branch Bne 5 0 0) → At ann i
-  Releases : (is : i ≡ Sw 0 6 (pos 0)) → At ann i
+  Releases : (is : i ≡ Sw plain 0 6 (pos 0)) → At ann i
 
 at_position : (ann : Ann) (k : ℕ) (i : Instr) → slice_get (takes_and_releases ann) k ≡ Some i → At ann i
 at_position ann zero i e = Takes (sym (same_Some (Amo Swap ann 5 9 6) i e))
 at_position ann (suc zero) i e = Again (sym (same_Some (Branch Bne 5 0 0) i e))
-at_position ann (suc (suc zero)) i e = Releases (sym (same_Some (Sw 0 6 (pos 0)) i e))
+at_position ann (suc (suc zero)) i e = Releases (sym (same_Some (Sw plain 0 6 (pos 0)) i e))
 at_position ann (suc (suc (suc k))) i e = absurd (let none : None ≡ Some i = e in cc)
 
 -- it writes no register but x5
@@ -126,7 +127,7 @@ module _ (n taken : ℕ) (ann : Ann) where
         let access : Accesses n m.h s (Branch Bne 5 0 0) = subst (Accesses n m.h s) is m.step.2 in
         inl access.2)
     | Releases is ↦
-        let access : Accesses n m.h s (Sw 0 6 (pos 0)) = subst (Accesses n m.h s) is m.step.2 in
+        let access : Accesses n m.h s (Sw plain 0 6 (pos 0)) = subst (Accesses n m.h s) is m.step.2 in
         inr (inl (access.2 ∙ ap (λ i. stored_in m.h.registers s.loaded i) is ∙ ap Some m.ready.0))
   ]
 

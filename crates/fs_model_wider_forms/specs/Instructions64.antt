@@ -100,15 +100,15 @@ does_branch branch.Bltu a b = nat_lt a b
 does_branch branch.Bgeu a b = not (nat_lt a b)
 
 abbrev pub address_in : List ℕ → Instr → Option ℕ
-address_in x (Lw rd base offset) = Some (add (read x base) (doubleword_of offset))
-address_in x (Sw value base offset) = Some (add (read x base) (doubleword_of offset))
+address_in x (Lw ann rd base offset) = Some (add (read x base) (doubleword_of offset))
+address_in x (Sw ann value base offset) = Some (add (read x base) (doubleword_of offset))
 address_in x (Lr ann rd base) = Some (read x base)
 address_in x (Sc ann rd value base) = Some (read x base)
 address_in x (Amo op ann rd value base) = Some (read x base)
 address_in x _ = None
 
 abbrev pub stored_in : List ℕ → (loaded : Option ℕ) → Instr → Option ℕ
-stored_in x loaded (Sw value base offset) = Some (read x value)
+stored_in x loaded (Sw ann value base offset) = Some (read x value)
 stored_in x loaded (Sc ann rd value base) = Some (read x value)
 stored_in x loaded (Amo op ann rd value base) = Some (combined op (unwrap_or loaded 0) (read x value))
 stored_in x loaded _ = None
@@ -120,7 +120,7 @@ result_in x loaded stored (Immediate op rd first immediate) = computed_with op (
 result_in x loaded stored (Shift op rd first amount) = shifted op (read x first) amount
 result_in x loaded stored (Lui rd upper) = extended (words.shift_left upper 12)
 result_in x loaded stored (Li rd word) = extended word
-result_in x loaded stored (Lw rd base offset) = unwrap_or loaded 0
+result_in x loaded stored (Lw ann rd base offset) = unwrap_or loaded 0
 result_in x loaded stored (Lr ann rd base) = unwrap_or loaded 0
 result_in x loaded stored (Amo op ann rd value base) = unwrap_or loaded 0
 result_in x loaded stored (Sc ann rd value base) = if is_some stored then 0 else 1

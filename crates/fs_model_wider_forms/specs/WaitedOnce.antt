@@ -1,5 +1,6 @@
 -- A hart that waits for a flag to be lowered, one that lowers it, and an execution in which the first goes back once.
 use Rattle.std.specs.Prelude.{ℕ, None, Some, List, [], ◌∷◌, pos, codes}
+use Rattle.fs_instr.specs.Names.{plain}
 use Rattle.fs_instr.specs.declared.names.BranchOp.TheVariants.{Bne}
 use Rattle.fs_instr.specs.declared.instr.Instr.TheVariants.{Lw, Sw, Branch}
 use Rattle.fs_model.specs.declared.outcome.Outcome.TheVariants as outcome
@@ -19,7 +20,7 @@ registers =
 abbrev pub waiting : Test
 waiting = record {
   name = codes "waiting";
-  codes = waits_for_a_flag ∷ (Sw 0 6 (pos 0) ∷ []) ∷ [];
+  codes = waits_for_a_flag ∷ (Sw plain 0 6 (pos 0) ∷ []) ∷ [];
   starts = registers ∷ registers ∷ [];
   locations = record { name = codes "flag"; word = 1 } ∷ record { name = codes "x"; word = 0 } ∷ [];
   quantifier = Exists;
@@ -28,15 +29,15 @@ waiting = record {
 
 abbrev pub waiter : List Step
 waiter =
-    record { at = 0; instr = Lw 5 6 (pos 0); address = Some 4096; loaded = Some 1; stored = None }
+    record { at = 0; instr = Lw plain 5 6 (pos 0); address = Some 4096; loaded = Some 1; stored = None }
     ∷ record { at = 1; instr = Branch Bne 5 0 0; address = None; loaded = None; stored = None }
-    ∷ record { at = 0; instr = Lw 5 6 (pos 0); address = Some 4096; loaded = Some 0; stored = None }
+    ∷ record { at = 0; instr = Lw plain 5 6 (pos 0); address = Some 4096; loaded = Some 0; stored = None }
     ∷ record { at = 1; instr = Branch Bne 5 0 0; address = None; loaded = None; stored = None }
-    ∷ record { at = 2; instr = Lw 7 8 (pos 0); address = Some 4112; loaded = Some 0; stored = None }
+    ∷ record { at = 2; instr = Lw plain 7 8 (pos 0); address = Some 4112; loaded = Some 0; stored = None }
     ∷ []
 
 abbrev pub lowerer : List Step
-lowerer = record { at = 0; instr = Sw 0 6 (pos 0); address = Some 4096; loaded = None; stored = Some 0 } ∷ []
+lowerer = record { at = 0; instr = Sw plain 0 6 (pos 0); address = Some 4096; loaded = None; stored = Some 0 } ∷ []
 
 -- the store comes between the two loads of the flag
 abbrev pub waited_once : Execution

@@ -1,5 +1,6 @@
 -- Loops of two instructions that wait for a flag or a lock: what a code must be like for their turns to be idle.
 use Rattle.std.specs.Prelude.{◌≡◌, ◌≢◌, ℕ, ℤ, pos, ◌+◌, ◌<◌, ◌⊎◌, true, Option, Some, List, [], ◌∷◌, All, length, slice_get, option_and_then}
+use Rattle.fs_instr.specs.Names.{plain}
 use Rattle.fs_instr.specs.declared.names.Ann.{Ann}
 use Rattle.fs_instr.specs.declared.names.AmoOp.TheVariants.{Swap}
 use Rattle.fs_instr.specs.declared.names.BranchOp.TheVariants.{Bne}
@@ -24,10 +25,11 @@ IsWhole code k = (at : ℕ) → target_at code at ≢ Some (k + 1)
 
 -- a lw, at this position, of a register that isn't its base
 pub record LoadsAt (code : List Instr) (k : ℕ) : Type 0 where
+  pub ann : Ann
   pub rd : ℕ
   pub base : ℕ
   pub offset : ℤ
-  pub load : slice_get code k ≡ Some (Lw rd base offset)
+  pub load : slice_get code k ≡ Some (Lw ann rd base offset)
   pub other : rd ≢ base
   pub whole : IsWhole code k
 
@@ -70,15 +72,15 @@ StartsWithZero t = (hart : ℕ) → hart < length t.codes → read (registers_of
 
 -- lw x5,0(x6) / bnez x5 back to it / lw x7,0(x8)
 abbrev pub waits_for_a_flag : List Instr
-waits_for_a_flag = Lw 5 6 (pos 0) ∷ Branch Bne 5 0 0 ∷ Lw 7 8 (pos 0) ∷ []
+waits_for_a_flag = Lw plain 5 6 (pos 0) ∷ Branch Bne 5 0 0 ∷ Lw plain 7 8 (pos 0) ∷ []
 
 -- amoswap.w x5,x9,(x6) / bnez x5 back to it / lw x7,0(x8)
 abbrev pub waits_for_a_lock : Ann → List Instr
-waits_for_a_lock ann = Amo Swap ann 5 9 6 ∷ Branch Bne 5 0 0 ∷ Lw 7 8 (pos 0) ∷ []
+waits_for_a_lock ann = Amo Swap ann 5 9 6 ∷ Branch Bne 5 0 0 ∷ Lw plain 7 8 (pos 0) ∷ []
 
 -- amoswap.w x5,x9,(x6) / bnez x5 back to it / sw x0,0(x6)
 abbrev pub takes_and_releases : Ann → List Instr
-takes_and_releases ann = Amo Swap ann 5 9 6 ∷ Branch Bne 5 0 0 ∷ Sw 0 6 (pos 0) ∷ []
+takes_and_releases ann = Amo Swap ann 5 9 6 ∷ Branch Bne 5 0 0 ∷ Sw plain 0 6 (pos 0) ∷ []
 
 -- Each hart takes a lock, any of the locations, and releases it: its x0 begins with 0, and its x9 with the word of a
 -- lock that is taken. The locations begin with 0 or that word.

@@ -90,18 +90,18 @@ module _ (b : Place) where
   first_is ss run =
       let h = start_with (registers_of t 0) in
       let a = stores_next 2 (code_of t 0) h ss 5 6 (pos 0) refl run in
-      let k = after_step h (step_of h (Sw 5 6 (pos 0)) None) in
+      let k = after_step h (step_of h (Sw plain 5 6 (pos 0)) None) in
       let c = loads_next 2 (code_of t 0) k a.rest 7 8 (pos 0) refl a.ends in
-      let done = at_end 2 (code_of t 0) (after_step k (step_of k (Lw 7 8 (pos 0)) (Some c.0))) c.1.rest (lit≤ tt) c.1.ends in
+      let done = at_end 2 (code_of t 0) (after_step k (step_of k (Lw plain 7 8 (pos 0)) (Some c.0))) c.1.rest (lit≤ tt) c.1.ends in
       (c.0, followed a _ (followed c.1 _ done))
 
   pub second_is : (ss : List Step) → IsTrace t 1 ss → (l : ℕ) × (ss ≡ second l)
   second_is ss run =
       let h = start_with (registers_of t 1) in
       let a = stores_next 2 (code_of t 1) h ss 5 8 (pos 0) refl run in
-      let k = after_step h (step_of h (Sw 5 8 (pos 0)) None) in
+      let k = after_step h (step_of h (Sw plain 5 8 (pos 0)) None) in
       let c = loads_next 2 (code_of t 1) k a.rest 7 6 (pos 0) refl a.ends in
-      let done = at_end 2 (code_of t 1) (after_step k (step_of k (Lw 7 6 (pos 0)) (Some c.0))) c.1.rest (lit≤ tt) c.1.ends in
+      let done = at_end 2 (code_of t 1) (after_step k (step_of k (Lw plain 7 6 (pos 0)) (Some c.0))) c.1.rest (lit≤ tt) c.1.ends in
       (c.0, followed a _ (followed c.1 _ done))
 
   first_run : (l : ℕ) → l < 2 → IsTrace t 0 (first l)
@@ -260,7 +260,7 @@ module _ (b : Place) where
   behind_is ss run =
       let h = start_with (registers_of pair 1) in
       let a = stores_next 2 (code_of pair 1) h ss 10 6 (pos 0) refl run in
-      let done = at_end 2 (code_of pair 1) (after_step h (step_of h (Sw 10 6 (pos 0)) None)) a.rest (lit≤ tt) a.ends in
+      let done = at_end 2 (code_of pair 1) (after_step h (step_of h (Sw plain 10 6 (pos 0)) None)) a.rest (lit≤ tt) a.ends in
       followed a _ done
 
   succeeds_run : (l : ℕ) → l < 3 → IsTrace pair 0 (succeeds l)

@@ -3,6 +3,7 @@ use Rattle.std.proofs.Common.{◌≡◌, ℕ, zero, suc, ◌<◌, ◌==◌, Bool
 use Rattle.std.specs.List.{Contains, slice_index_or}
 use Rattle.std.specs.declared.alloc.Global.{Global}
 use Rattle.std.proofs.lemmas.Bool.{and_parts, eqb-true, false≢true}
+use Rattle.fs_instr.specs.Names.{plain}
 use Rattle.fs_instr.specs.declared.names.ImmOp.TheVariants.{Ori}
 use Rattle.fs_instr.specs.declared.instr.Instr.TheVariants.{Immediate, Lw, Sw}
 use Rattle.fs_model.specs.declared.test.Test.{Test}
@@ -21,8 +22,8 @@ use Rattle.fs_model_worked_examples.proofs.Inversion.{step_of, computes, stores_
 -- the loads return these words
 abbrev loads_of : ℕ → ℕ → List Step
 loads_of l m =
-    record { at = 0; instr = Lw 5 6 (pos 0); address = Some 4096; loaded = Some l; stored = None }
-    ∷ record { at = 1; instr = Lw 7 6 (pos 0); address = Some 4096; loaded = Some m; stored = None }
+    record { at = 0; instr = Lw plain 5 6 (pos 0); address = Some 4096; loaded = Some l; stored = None }
+    ∷ record { at = 1; instr = Lw plain 7 6 (pos 0); address = Some 4096; loaded = Some m; stored = None }
     ∷ []
 
 abbrev x : PreExecution
@@ -86,16 +87,16 @@ module _ (p q : Box (Unit {0}) Global) where
       let a = computes 1 (code_of t 0) h ss Ori 5 0 (pos 1) refl run in
       let k = after_step h (step_of h (Immediate Ori 5 0 (pos 1)) None) in
       let b = stores_next 1 (code_of t 0) k a.rest 5 6 (pos 0) refl a.ends in
-      let done = at_end 1 (code_of t 0) (after_step k (step_of k (Sw 5 6 (pos 0)) None)) b.rest (lit≤ tt) b.ends in
+      let done = at_end 1 (code_of t 0) (after_step k (step_of k (Sw plain 5 6 (pos 0)) None)) b.rest (lit≤ tt) b.ends in
       followed a _ (followed b _ done)
 
   loading : (ss : List Step) → IsTrace t 1 ss → (l m : ℕ) × (ss ≡ loads_of l m)
   loading ss run =
       let h = start_with (registers_of t 1) in
       let a = loads_next 1 (code_of t 1) h ss 5 6 (pos 0) refl run in
-      let k = after_step h (step_of h (Lw 5 6 (pos 0)) (Some a.0)) in
+      let k = after_step h (step_of h (Lw plain 5 6 (pos 0)) (Some a.0)) in
       let b = loads_next 1 (code_of t 1) k a.1.rest 7 6 (pos 0) refl a.1.ends in
-      let done = at_end 1 (code_of t 1) (after_step k (step_of k (Lw 7 6 (pos 0)) (Some b.0))) b.1.rest (lit≤ tt) b.1.ends in
+      let done = at_end 1 (code_of t 1) (after_step k (step_of k (Lw plain 7 6 (pos 0)) (Some b.0))) b.1.rest (lit≤ tt) b.1.ends in
       (a.0, b.0, followed a.1 _ (followed b.1 _ done))
 
   -- the outcome says what the loads return

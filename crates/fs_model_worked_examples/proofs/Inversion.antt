@@ -4,6 +4,7 @@ use Rattle.std.specs.Prelude.{slice_get}
 use Rattle.std.specs.List.{list_all}
 use Rattle.std.proofs.lemmas.Bool.{and_parts, or_cases, eqb-true, false≢true}
 use Rattle.std.proofs.lemmas.Option.{slice_get_past}
+use Rattle.fs_instr.specs.Names.{plain}
 use Rattle.fs_instr.specs.declared.names.Ann.{Ann}
 use Rattle.fs_instr.specs.declared.names.AmoOp.{AmoOp}
 use Rattle.fs_instr.specs.declared.names.ImmOp.{ImmOp}
@@ -80,19 +81,19 @@ module _ (n : ℕ) (code : List Instr) (h : Hart) (ss : List Step) where
       let m = made n code h (Immediate op rd first immediate) b.first here b.step in
       exactly n code h ss b.first _ (same_step _ _ m.at m.instr m.access.0 m.access.1 m.access.2) b.begins
 
-  pub stores_next : (value base : ℕ) (offset : ℤ) → slice_get code h.at ≡ Some (Sw value base offset) → Ends n code h ss
-      → Begins n code h ss (step_of h (Sw value base offset) None)
+  pub stores_next : (value base : ℕ) (offset : ℤ) → slice_get code h.at ≡ Some (Sw plain value base offset) → Ends n code h ss
+      → Begins n code h ss (step_of h (Sw plain value base offset) None)
   stores_next value base offset here ends =
-      let b = begin n code h (Sw value base offset) ss here ends in
-      let m = made n code h (Sw value base offset) b.first here b.step in
+      let b = begin n code h (Sw plain value base offset) ss here ends in
+      let m = made n code h (Sw plain value base offset) b.first here b.step in
       exactly n code h ss b.first _
       (same_step _ _ m.at m.instr (addressed h b.first _ m.instr m.access.0.0) m.access.1 (stores h b.first _ None m.instr m.access.1 m.access.2)) b.begins
 
-  pub loads_next : (rd base : ℕ) (offset : ℤ) → slice_get code h.at ≡ Some (Lw rd base offset) → Ends n code h ss
-      → (l : ℕ) × Begins n code h ss (step_of h (Lw rd base offset) (Some l))
+  pub loads_next : (rd base : ℕ) (offset : ℤ) → slice_get code h.at ≡ Some (Lw plain rd base offset) → Ends n code h ss
+      → (l : ℕ) × Begins n code h ss (step_of h (Lw plain rd base offset) (Some l))
   loads_next rd base offset here ends =
-      let b = begin n code h (Lw rd base offset) ss here ends in
-      let m = made n code h (Lw rd base offset) b.first here b.step in
+      let b = begin n code h (Lw plain rd base offset) ss here ends in
+      let m = made n code h (Lw plain rd base offset) b.first here b.step in
       let l = some_word b.first.loaded m.access.1 in (
         l.0,
         exactly n code h ss b.first _ (same_step _ _ m.at m.instr (addressed h b.first _ m.instr m.access.0.0) l.1 m.access.2) b.begins,

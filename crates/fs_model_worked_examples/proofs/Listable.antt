@@ -133,22 +133,22 @@ module _ (b : Place) where
       let is = first_is b ss run in
       let l = subst (LoadsFrom (IsValueAfter t n)) is.1 loads 1 (lw 1 7 y is.0) (lit< tt) 1 is.0 refl refl in
       subst (λ us. IsAmong two_lists (choices_of us)) (sym is.1) (in_two_lists is.0 (value_is b n 1 is.0 l)))
-      (two_never_astray 2 (Sw 5 6 (pos 0)) (Lw 7 8 (pos 0)) (start 0) refl (λ s is. ap (next_after (start 0).registers 0) is)
+      (two_never_astray 2 (Sw plain 5 6 (pos 0)) (Lw plain 7 8 (pos 0)) (start 0) refl (λ s is. ap (next_after (start 0).registers 0) is)
       (λ s u is then. ap (next_after (after_step (start 0) s).registers (after_step (start 0) s).at) then
-      ∙ ap (λ i. next_after (start 0).registers (next_after (start 0).registers 0 i) (Lw 7 8 (pos 0))) is)
+      ∙ ap (λ i. next_after (start 0).registers (next_after (start 0).registers 0 i) (Lw plain 7 8 (pos 0))) is)
       (λ astray. astray.1 (0, lit< tt, refl))
-      (λ s is astray. subst (λ i. IsDeclared 2 (address_in (executed (start 0).registers s.loaded s.stored i) (Lw 7 8 (pos 0))) → ⊥) is astray.1 (1, lit< tt, refl)))
+      (λ s is astray. subst (λ i. IsDeclared 2 (address_in (executed (start 0).registers s.loaded s.stored i) (Lw plain 7 8 (pos 0))) → ⊥) is astray.1 (1, lit< tt, refl)))
   sb_no_fault n (suc zero) low =
       no_hart_fault t (IsValueAfter t n) 1 two_lists (lit≤ tt)
       (λ ss run loads.
       let is = second_is b ss run in
       let l = subst (LoadsFrom (IsValueAfter t n)) is.1 loads 1 (lw 1 7 x is.0) (lit< tt) 0 is.0 refl refl in
       subst (λ us. IsAmong two_lists (choices_of us)) (sym is.1) (in_two_lists is.0 (value_is b n 0 is.0 l)))
-      (two_never_astray 2 (Sw 5 8 (pos 0)) (Lw 7 6 (pos 0)) (start 1) refl (λ s is. ap (next_after (start 1).registers 0) is)
+      (two_never_astray 2 (Sw plain 5 8 (pos 0)) (Lw plain 7 6 (pos 0)) (start 1) refl (λ s is. ap (next_after (start 1).registers 0) is)
       (λ s u is then. ap (next_after (after_step (start 1) s).registers (after_step (start 1) s).at) then
-      ∙ ap (λ i. next_after (start 1).registers (next_after (start 1).registers 0 i) (Lw 7 6 (pos 0))) is)
+      ∙ ap (λ i. next_after (start 1).registers (next_after (start 1).registers 0 i) (Lw plain 7 6 (pos 0))) is)
       (λ astray. astray.1 (1, lit< tt, refl))
-      (λ s is astray. subst (λ i. IsDeclared 2 (address_in (executed (start 1).registers s.loaded s.stored i) (Lw 7 6 (pos 0))) → ⊥) is astray.1 (0, lit< tt, refl)))
+      (λ s is astray. subst (λ i. IsDeclared 2 (address_in (executed (start 1).registers s.loaded s.stored i) (Lw plain 7 6 (pos 0))) → ⊥) is astray.1 (0, lit< tt, refl)))
   sb_no_fault n (suc (suc hart)) low = absurd (omega (arith, low))
 
   sb_listable : CanBeListed t
@@ -214,7 +214,7 @@ module _ (b : Place) where
   pair_no_fault n (suc zero) low =
       no_hart_fault pair (IsValueAfter pair n) 1 ([] ∷ []) (lit≤ tt)
       (λ ss run loads. inl (ap choices_of (behind_is b ss run)))
-      (one_never_astray 2 (Sw 10 6 (pos 0)) (begins 1) refl (λ s is. ap (next_after (begins 1).registers 0) is)
+      (one_never_astray 2 (Sw plain 10 6 (pos 0)) (begins 1) refl (λ s is. ap (next_after (begins 1).registers 0) is)
       (λ astray. astray.1 (0, lit< tt, refl)))
   pair_no_fault n (suc (suc hart)) low = absurd (omega (arith, low))
 

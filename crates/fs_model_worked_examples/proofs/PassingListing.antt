@@ -3,6 +3,7 @@ use Rattle.std.proofs.Common.{◌≡◌, ℕ, zero, suc, ◌+◌, ◌*◌, ◌<�
 use Rattle.std.specs.List.{Contains, slice_index_or}
 use Rattle.std.specs.declared.alloc.Global.{Global}
 use Rattle.std.proofs.lemmas.Bool.{and_from, and_parts, eqb-true, not-true, false≢true, both_ways}
+use Rattle.fs_instr.specs.Names.{plain}
 use Rattle.fs_instr.specs.declared.names.ImmOp.TheVariants.{Ori}
 use Rattle.fs_instr.specs.declared.instr.Instr.TheVariants.{Immediate, Lw, Sw}
 use Rattle.fs_model.proofs.Tested.{All-nil, All-cons}
@@ -198,11 +199,11 @@ module _ (p q : Box (Unit {0}) Global) where
       let a = computes 2 code h ss Ori 5 0 (pos 1) refl run in
       let i = after_step h (step_of h (Immediate Ori 5 0 (pos 1)) None) in
       let b = stores_next 2 code i a.rest 5 6 (pos 0) refl a.ends in
-      let j = after_step i (step_of i (Sw 5 6 (pos 0)) None) in
+      let j = after_step i (step_of i (Sw plain 5 6 (pos 0)) None) in
       let c = computes 2 code j b.rest Ori 7 0 (pos 1) refl b.ends in
       let k = after_step j (step_of j (Immediate Ori 7 0 (pos 1)) None) in
       let d = stores_next 2 code k c.rest 7 8 (pos 0) refl c.ends in
-      let done = at_end 2 code (after_step k (step_of k (Sw 7 8 (pos 0)) None)) d.rest (lit≤ tt) d.ends in
+      let done = at_end 2 code (after_step k (step_of k (Sw plain 7 8 (pos 0)) None)) d.rest (lit≤ tt) d.ends in
       followed a _ (followed b _ (followed c _ (followed d _ done)))
 
   loads_run : (ss : List Step) → IsTrace t 1 ss → (l m : ℕ) × (ss ≡ two_loads l m)
@@ -210,9 +211,9 @@ module _ (p q : Box (Unit {0}) Global) where
       let code = code_of t 1 in
       let h = start_with (registers_of t 1) in
       let a = loads_next 2 code h ss 5 6 (pos 0) refl run in
-      let k = after_step h (step_of h (Lw 5 6 (pos 0)) (Some a.0)) in
+      let k = after_step h (step_of h (Lw plain 5 6 (pos 0)) (Some a.0)) in
       let b = loads_next 2 code k a.1.rest 7 8 (pos 0) refl a.1.ends in
-      let done = at_end 2 code (after_step k (step_of k (Lw 7 8 (pos 0)) (Some b.0))) b.1.rest (lit≤ tt) b.1.ends in
+      let done = at_end 2 code (after_step k (step_of k (Lw plain 7 8 (pos 0)) (Some b.0))) b.1.rest (lit≤ tt) b.1.ends in
       (a.0, b.0, followed a.1 _ (followed b.1 _ done))
 
   -- the outcome says what the loads return

@@ -6,6 +6,7 @@ use Rattle.std.proofs.lemmas.Bool.{and_parts, or_cases, ltb-true, eqb-true, not-
 use Rattle.fs_kinds.specs.declared.placement.Entry.{Entry}
 use Rattle.fs_kinds.specs.declared.kind.Kind.TheVariants.{WR}
 use Rattle.fs_kinds.specs.declared.reason.Reason.TheVariants.{Choices}
+use Rattle.fs_instr.specs.Names.{plain}
 use Rattle.fs_instr.specs.declared.instr.Instr.TheVariants.{Lw}
 use Rattle.fs_model.specs.declared.step.Step.{Step}
 use Rattle.fs_model.specs.declared.step.Stop.TheVariants.{Short}
@@ -93,7 +94,7 @@ module _ (p q : Box (Unit {0}) Global) where
       steps = take 2 (steps 4112 4096);
       stopped = (
         ((refl, refl, (refl, refl, refl)), ((refl, refl, ((refl, (1, lit< tt, refl)), refl, refl)), tt)),
-        ([], refl, (Lw 7 8 (pos 0), refl, ((λ astray. astray.1 (0, lit< tt, refl)), refl, refl))),
+        ([], refl, (Lw plain 7 8 (pos 0), refl, ((λ astray. astray.1 (0, lit< tt, refl)), refl, refl))),
       );
       earlier = only_first;
     },

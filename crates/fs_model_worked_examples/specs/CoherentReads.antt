@@ -2,6 +2,7 @@
 use Rattle.std.specs.Prelude.{ℕ, None, Some, List, [], ◌∷◌, pos, codes}
 use Rattle.std.proofs.Common.{Box}
 use Rattle.std.specs.declared.alloc.Global.{Global}
+use Rattle.fs_instr.specs.Names.{plain}
 use Rattle.fs_instr.specs.declared.names.ImmOp.TheVariants.{Ori}
 use Rattle.fs_instr.specs.declared.instr.Instr.TheVariants.{Immediate, Lw, Sw}
 use Rattle.fs_model.specs.declared.outcome.Outcome.TheVariants as outcome
@@ -24,7 +25,7 @@ registers =
 abbrev pub corr : Box (Unit {0}) Global → Box (Unit {0}) Global → Test
 corr p q = record {
   name = codes "CoRR";
-  codes = (Immediate Ori 5 0 (pos 1) ∷ Sw 5 6 (pos 0) ∷ []) ∷ (Lw 5 6 (pos 0) ∷ Lw 7 6 (pos 0) ∷ []) ∷ [];
+  codes = (Immediate Ori 5 0 (pos 1) ∷ Sw plain 5 6 (pos 0) ∷ []) ∷ (Lw plain 5 6 (pos 0) ∷ Lw plain 7 6 (pos 0) ∷ []) ∷ [];
   starts = registers ∷ registers ∷ [];
   locations = record { name = codes "x"; word = 0 } ∷ [];
   quantifier = Exists;
@@ -34,13 +35,13 @@ corr p q = record {
 abbrev pub store : List Step
 store =
     record { at = 0; instr = Immediate Ori 5 0 (pos 1); address = None; loaded = None; stored = None }
-    ∷ record { at = 1; instr = Sw 5 6 (pos 0); address = Some 4096; loaded = None; stored = Some 1 }
+    ∷ record { at = 1; instr = Sw plain 5 6 (pos 0); address = Some 4096; loaded = None; stored = Some 1 }
     ∷ []
 
 abbrev pub loads : List Step
 loads =
-    record { at = 0; instr = Lw 5 6 (pos 0); address = Some 4096; loaded = Some 1; stored = None }
-    ∷ record { at = 1; instr = Lw 7 6 (pos 0); address = Some 4096; loaded = Some 0; stored = None }
+    record { at = 0; instr = Lw plain 5 6 (pos 0); address = Some 4096; loaded = Some 1; stored = None }
+    ∷ record { at = 1; instr = Lw plain 7 6 (pos 0); address = Some 4096; loaded = Some 0; stored = None }
     ∷ []
 
 -- The store is operation 0, the loads are 1 and 2, and the initial store is 3. The first load returns the store's word

@@ -38,10 +38,10 @@ abbrev plain : Ann
 plain = annotated false false
 
 abbrev lw : ℕ → (rd base address word : ℕ) → Step
-lw at rd base address word = step at (Lw rd base (pos 0)) (Some address) (Some word) None
+lw at rd base address word = step at (Lw plain rd base (pos 0)) (Some address) (Some word) None
 
 abbrev sw : ℕ → (value base address word : ℕ) → Step
-sw at value base address word = step at (Sw value base (pos 0)) (Some address) None (Some word)
+sw at value base address word = step at (Sw plain value base (pos 0)) (Some address) None (Some word)
 
 abbrev lr : ℕ → Ann → (rd base address word : ℕ) → Step
 lr at ann rd base address word = step at (Lr ann rd base) (Some address) (Some word) None

@@ -5,6 +5,7 @@ use Rattle.std.proofs.Common.{Box}
 use Rattle.std.specs.declared.alloc.Global.{Global}
 use Rattle.fs_kinds.specs.declared.kind.Kind.{Kind}
 use Rattle.fs_kinds.specs.declared.placement.Entry.{Entry}
+use Rattle.fs_instr.specs.Names.{plain}
 use Rattle.fs_instr.specs.declared.names.ImmOp.TheVariants.{Ori}
 use Rattle.fs_instr.specs.declared.instr.Instr.TheVariants.{Immediate, Lw, Sw}
 use Rattle.fs_model.specs.declared.outcome.Outcome.TheVariants as outcome
@@ -27,8 +28,8 @@ abbrev pub passing : (word : ℕ) → Box (Unit {0}) Global → Box (Unit {0}) G
 passing word p q = record {
   name = codes "MP";
   codes =
-      (Immediate Ori 5 0 (pos 1) ∷ Sw 5 6 (pos 0) ∷ Immediate Ori 7 0 (pos 1) ∷ Sw 7 8 (pos 0) ∷ [])
-      ∷ (Lw 5 6 (pos 0) ∷ Lw 7 8 (pos 0) ∷ [])
+      (Immediate Ori 5 0 (pos 1) ∷ Sw plain 5 6 (pos 0) ∷ Immediate Ori 7 0 (pos 1) ∷ Sw plain 7 8 (pos 0) ∷ [])
+      ∷ (Lw plain 5 6 (pos 0) ∷ Lw plain 7 8 (pos 0) ∷ [])
       ∷ [];
   starts = registers 4096 4112 ∷ registers 4112 4096 ∷ [];
   locations = record { name = codes "x"; word = 0 } ∷ record { name = codes "y"; word = 0 } ∷ [];
@@ -46,16 +47,16 @@ mp11 = passing 1
 abbrev pub two_stores : List Step
 two_stores =
     record { at = 0; instr = Immediate Ori 5 0 (pos 1); address = None; loaded = None; stored = None }
-    ∷ record { at = 1; instr = Sw 5 6 (pos 0); address = Some 4096; loaded = None; stored = Some 1 }
+    ∷ record { at = 1; instr = Sw plain 5 6 (pos 0); address = Some 4096; loaded = None; stored = Some 1 }
     ∷ record { at = 2; instr = Immediate Ori 7 0 (pos 1); address = None; loaded = None; stored = None }
-    ∷ record { at = 3; instr = Sw 7 8 (pos 0); address = Some 4112; loaded = None; stored = Some 1 }
+    ∷ record { at = 3; instr = Sw plain 7 8 (pos 0); address = Some 4112; loaded = None; stored = Some 1 }
     ∷ []
 
 -- the loads return these words
 abbrev pub two_loads : ℕ → ℕ → List Step
 two_loads flag word =
-    record { at = 0; instr = Lw 5 6 (pos 0); address = Some 4112; loaded = Some flag; stored = None }
-    ∷ record { at = 1; instr = Lw 7 8 (pos 0); address = Some 4096; loaded = Some word; stored = None }
+    record { at = 0; instr = Lw plain 5 6 (pos 0); address = Some 4112; loaded = Some flag; stored = None }
+    ∷ record { at = 1; instr = Lw plain 7 8 (pos 0); address = Some 4096; loaded = Some word; stored = None }
     ∷ []
 
 -- the stores are operations 0 and 1, and the loads 2 and 3; all of them in program order, hart 0 first

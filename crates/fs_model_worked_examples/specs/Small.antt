@@ -54,10 +54,10 @@ abbrev address : (base : ℕ) → ℕ
 address base = slice_index_or start base 0
 
 abbrev load : (rd base : ℕ) → Instr
-load rd base = Lw rd base (pos 0)
+load rd base = Lw plain rd base (pos 0)
 
 abbrev store : (value base : ℕ) → Instr
-store value base = Sw value base (pos 0)
+store value base = Sw plain value base (pos 0)
 
 abbrev pub plain : Ann
 plain = record { acquire = false; release = false }

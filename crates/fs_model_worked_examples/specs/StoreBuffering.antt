@@ -4,6 +4,7 @@ use Rattle.std.proofs.Common.{Box}
 use Rattle.std.specs.declared.alloc.Global.{Global}
 use Rattle.fs_kinds.specs.declared.kind.Kind.{Kind}
 use Rattle.fs_kinds.specs.declared.placement.Entry.{Entry}
+use Rattle.fs_instr.specs.Names.{plain}
 use Rattle.fs_instr.specs.declared.names.ImmOp.TheVariants.{Ori}
 use Rattle.fs_instr.specs.declared.instr.Instr.{Instr}
 use Rattle.fs_instr.specs.declared.instr.Instr.TheVariants.{Immediate, Lw, Sw}
@@ -15,7 +16,7 @@ use Rattle.fs_model.specs.Execution.{Execution}
 
 -- ori x5,x0,1 / sw x5,0(x6) / lw x7,0(x8)
 abbrev pub code : List Instr
-code = Immediate Ori 5 0 (pos 1) ∷ Sw 5 6 (pos 0) ∷ Lw 7 8 (pos 0) ∷ []
+code = Immediate Ori 5 0 (pos 1) ∷ Sw plain 5 6 (pos 0) ∷ Lw plain 7 8 (pos 0) ∷ []
 
 -- x6 and x8 at first, and the other registers at 0
 abbrev pub registers : ℕ → ℕ → List ℕ
@@ -37,8 +38,8 @@ sb p q = record {
 abbrev pub steps : ℕ → ℕ → List Step
 steps own other =
     record { at = 0; instr = Immediate Ori 5 0 (pos 1); address = None; loaded = None; stored = None }
-    ∷ record { at = 1; instr = Sw 5 6 (pos 0); address = Some own; loaded = None; stored = Some 1 }
-    ∷ record { at = 2; instr = Lw 7 8 (pos 0); address = Some other; loaded = Some 0; stored = None }
+    ∷ record { at = 1; instr = Sw plain 5 6 (pos 0); address = Some own; loaded = None; stored = Some 1 }
+    ∷ record { at = 2; instr = Lw plain 7 8 (pos 0); address = Some other; loaded = Some 0; stored = None }
     ∷ []
 
 -- the loads come before the stores in the order

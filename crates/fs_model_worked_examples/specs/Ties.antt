@@ -7,6 +7,7 @@ use Rattle.fs_kinds.specs.declared.kind.Kind.{Kind}
 use Rattle.fs_kinds.specs.declared.kind.Kind.TheVariants.{WW, WRw, RwRw}
 use Rattle.fs_kinds.specs.declared.placement.Entry.{Entry}
 use Rattle.fs_kinds.specs.PriceTable.{PriceTable}
+use Rattle.fs_instr.specs.Names.{plain}
 use Rattle.fs_instr.specs.declared.names.ImmOp.TheVariants.{Ori}
 use Rattle.fs_instr.specs.declared.instr.Instr.{Instr}
 use Rattle.fs_instr.specs.declared.instr.Instr.TheVariants.{Immediate, Sw}
@@ -23,7 +24,7 @@ use Rattle.fs_model_worked_examples.specs.Rows.{entry}
 
 -- ori x5,x0,2 / sw x5,0(x6) / ori x7,x0,1 / sw x7,0(x8)
 abbrev pub code : List Instr
-code = Immediate Ori 5 0 (pos 2) ∷ Sw 5 6 (pos 0) ∷ Immediate Ori 7 0 (pos 1) ∷ Sw 7 8 (pos 0) ∷ []
+code = Immediate Ori 5 0 (pos 2) ∷ Sw plain 5 6 (pos 0) ∷ Immediate Ori 7 0 (pos 1) ∷ Sw plain 7 8 (pos 0) ∷ []
 
 -- the condition is `x=2 /\ y=2`
 abbrev pub two_writes : Box (Unit {0}) Global → Box (Unit {0}) Global → Test

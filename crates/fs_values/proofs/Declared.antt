@@ -13,9 +13,9 @@ use Rattle.fs_model.proofs.OptionalNumbers.{not_none}
 use Rattle.fs_model.proofs.RunLocations.{HasDeclaredPair}
 
 accessed : (n : ℕ) (h : Hart) (s : Step) (i : Instr) → Accesses n h s i → HasDeclaredPair n h → (a : ℕ) → s.address ≡ Some a → IsDeclared n (Some a)
-accessed n h s (Lw rd base offset) access pair a e = subst (IsDeclared n) e access.0.1
+accessed n h s (Lw ann rd base offset) access pair a e = subst (IsDeclared n) e access.0.1
 accessed n h s (Lr ann rd base) access pair a e = subst (IsDeclared n) e access.0.1
-accessed n h s (Sw value base offset) access pair a e = subst (IsDeclared n) e access.0.1
+accessed n h s (Sw ann value base offset) access pair a e = subst (IsDeclared n) e access.0.1
 accessed n h s (Amo op ann rd value base) access pair a e = subst (IsDeclared n) e access.0.1
 accessed n h s (Sc ann rd value base) access pair a e = elim access [
   | inl done ↦ pair a (sym done.1 ∙ e)

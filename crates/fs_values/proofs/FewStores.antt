@@ -20,7 +20,7 @@ abbrev pub stores : Operation → Bool
 stores o = is_some o.stored
 
 only_storing : (n : ℕ) (h : Hart) (s : Step) (i : Instr) → Accesses n h s i → is_some s.stored ≡ true → is_storing i ≡ true
-only_storing n h s (Sw value base offset) a there = refl
+only_storing n h s (Sw ann value base offset) a there = refl
 only_storing n h s (Sc ann rd value base) a there = refl
 only_storing n h s (Amo op ann rd value base) a there = refl
 only_storing n h s _ a there = absurd (none_there s.stored a.2 there)

@@ -33,8 +33,8 @@ loads_declared n h s w i l a = by_form i a
     none e = let both : None ≡ Some w = sym e ∙ l in absurd (cc)
 
     by_form : (i : Instr) → Accesses n h s i → IsDeclared n s.address
-    by_form (Lw rd base offset) a = a.0.1
-    by_form (Sw value base offset) a = a.0.1
+    by_form (Lw ann rd base offset) a = a.0.1
+    by_form (Sw ann value base offset) a = a.0.1
     by_form (Lr ann rd base) a = a.0.1
     by_form (Sc ann rd value base) a = elim a [ inl b ↦ none b.2 | inr b ↦ none b.1 ]
     by_form (Amo op ann rd value base) a = a.0.1

@@ -112,8 +112,8 @@ named_or_none x name = elim (named_below x name (length (accesses x))) [
 
 -- only a memory instruction accesses memory
 only_memory : (n : ℕ) (h : Hart) (s : Step) (i : Instr) → Accesses n h s i → is_some s.address ≡ true → is_memory i ≡ true
-only_memory n h s (Lw rd base offset) a there = refl
-only_memory n h s (Sw value base offset) a there = refl
+only_memory n h s (Lw ann rd base offset) a there = refl
+only_memory n h s (Sw ann value base offset) a there = refl
 only_memory n h s (Lr ann rd base) a there = refl
 only_memory n h s (Sc ann rd value base) a there = refl
 only_memory n h s (Amo op ann rd value base) a there = refl

@@ -23,10 +23,10 @@ use Rattle.fs_verdict_laws.proofs.Names.{runs_forward, step_made}
 
 -- what loads a word has an address
 loads_somewhere : (n : ℕ) (h : Hart) (s : Step) (i : Instr) → Accesses n h s i → is_some s.loaded ≡ true → is_some s.address ≡ true
-loads_somewhere n h s (Lw rd base offset) a there = some_from s.address _ a.0.1.2
+loads_somewhere n h s (Lw ann rd base offset) a there = some_from s.address _ a.0.1.2
 loads_somewhere n h s (Lr ann rd base) a there = some_from s.address _ a.0.1.2
 loads_somewhere n h s (Amo op ann rd value base) a there = some_from s.address _ a.0.1.2
-loads_somewhere n h s (Sw value base offset) a there = absurd (none_there s.loaded a.1 there)
+loads_somewhere n h s (Sw ann value base offset) a there = absurd (none_there s.loaded a.1 there)
 loads_somewhere n h s (Sc ann rd value base) a there = elim a [
   | inl done ↦ absurd (none_there s.loaded done.2 there)
   | inr failed ↦ absurd (none_there s.loaded failed.1 there)
