@@ -23,8 +23,7 @@ column code = map (cell code) (enumerate_from 0 code) ++ end_cells code
 
 abbrev pub print : (name : List ℕ) → Program → Outcome → List ℕ
 print name t o =
-    ended (codes "RISCV " ++ name)
-    ++ ended (codes "{")
+    ended (codes "RISCV " ++ name) ++ ended (codes "{")
     ++ locations_text t.locations
     ++ starts_text t.locations t.starts
     ++ ended (codes "}")
