@@ -53,14 +53,14 @@ y = 8
 abbrev address : (base : ℕ) → ℕ
 address base = slice_index_or start base 0
 
+abbrev pub plain : Ann
+plain = record { acquire = false; release = false }
+
 abbrev load : (rd base : ℕ) → Instr
 load rd base = Lw plain rd base (pos 0)
 
 abbrev store : (value base : ℕ) → Instr
 store value base = Sw plain value base (pos 0)
-
-abbrev pub plain : Ann
-plain = record { acquire = false; release = false }
 
 abbrev step : ℕ → Instr → (address loaded stored : Option ℕ) → Step
 step at i address loaded stored = record { at = at; instr = i; address = address; loaded = loaded; stored = stored }
