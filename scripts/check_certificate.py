@@ -131,8 +131,8 @@ FORMS = {
     'nop': ('', 'compute', operator.add), 'mv': ('d,s', 'compute', operator.add),
     'neg': ('d,s', 'compute', lambda a, b: -a), 'not': ('d,s', 'compute', lambda a, b: ~a),
     'sext.w': ('d,s', 'compute', operator.add), 'sltiu': ('d,s,i', 'compute', operator.lt),
-    'jal': ('z,l', 'jump', None), 'j': ('l', 'jump', None), 'fence': ('f,f', 'fence', None), 'fence.tso': ('', 'fence', None),
-    'fence.i': ('', 'fence', None)}
+    'jal': ('z,l', 'jump', None), 'j': ('l', 'jump', None), 'fence': ('f,f', 'fence', None),
+    'fence.tso': ('', 'fence', None), 'fence.i': ('', 'fence', None)}
 """Of each instruction (FORMAT 2) its operands, its form, and what it computes or when it jumps. Operands are d, the
 register rd; s, one to read plainly; v, the data; a, the address; z, the register x0; l, a label; f, the letters of a
 fence; and the numbers of RANGES, of which m and o may be left out before `(`. Other signs stand for themselves."""

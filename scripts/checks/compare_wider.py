@@ -1,5 +1,4 @@
-"""Tests in wider forms against plain Python: loops in one turn, a `filter`, accesses of 64 bits, and loads and stores
-with annotations."""
+"""Tests in wider forms against plain Python: loops in one turn, a `filter`, 64 bits, annotated loads and stores."""
 import random
 import re
 from unittest import mock
@@ -231,8 +230,7 @@ def check_ordered(run, chance, number):
 
 
 def check(run):
-    """Compares what is said of made tests with loops in one turn, with a `filter`, with accesses of 64 bits, and with
-    annotations of loads and stores."""
+    """Compares what is said of made tests with loops, a `filter`, 64 bits, and annotations of loads and stores."""
     for number in run.numbers():
         for one in (check_loops, check_turns, check_notes, check_written, check_filter, check_wide, check_ordered):
             one(run, random.Random(f"{one.__name__} {number}"), number)
