@@ -43,7 +43,7 @@ def check_solve(run):
     scripts/transcripts/known.table, and on the tests and price lists that scripts/litmus.py makes.
 
     With 1, 4 and 16 workers it must print the same bytes, and beside an answer write the same certificate, to which
-    `check` says yes. (In no test do others join the first worker; crates/fs_tests_search has such.)"""
+    `check` says yes. (In no test do others join the first worker; crates/fs_tests has such.)"""
     for name, prices in itertools.product(rows("known", "tests"), rows("known", "prices")):
         compare_solve(run, f"{name} at {prices}", read(f"{EXAMPLES}/{name}.litmus"), prices.encode())
     for number in run.numbers():

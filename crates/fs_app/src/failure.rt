@@ -30,7 +30,7 @@ pub(crate) enum Failure {
     #[error("error: `--write` and `--why` take one FILE, and `-i` one that isn't standard input\n")]
     OneTest,
     /// `audit -i` leaves the file as it is.
-    #[error("note: the file stays as it is, since other changes than to its FENCEs would be needed\n")]
+    #[error("note: the file stays as it is: FENCEs are changed where the outcome is forbidden, each in its place\n")]
     NotMended,
     /// `--why` was given a word that is no place.
     #[error("error: `--why` takes `all`, or a fence's place as `P1:6`\n")]

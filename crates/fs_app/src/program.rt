@@ -20,7 +20,7 @@ use crate::audits::answer_audit;
 use crate::failure::Failure;
 use crate::pictures::{draw_certified, draw_found, draw_ordered, draw_tests};
 use crate::progress::Progress;
-use crate::sites::{answer_check_sites, answer_sites, failure_of_words};
+use crate::sites::{SiteWords, answer_check_sites, answer_sites, failure_of_sites};
 use crate::states::{answer_log, answer_states};
 use crate::telling::{answer_why, is_yes, order_why, solve_why, telling_of, tests_why, with_below};
 use crate::write::fenced_file;
@@ -243,7 +243,7 @@ pub(crate) fn mended(
     }
 }
 
-/// The failure of a run that a fault ended. Of words of sites messages know nothing but which sites there are.
+/// The failure of a run that a fault ended. Of sites messages of a test know nothing.
 fn failure_of_task(
     alloc: Global,
     task: &Task<'_>,
@@ -251,14 +251,22 @@ fn failure_of_task(
     voice: Voice,
     papers: &Papers<'_>,
 ) -> Failure {
-    let frees = match task {
-        Task::Place(place) if place.sites => Some(place.free),
-        Task::Order(order) if order.sites => Some(order.free),
-        _ => None,
-    };
-    match frees {
-        Some(is_free) if fault == Fault::BadFence && voice.explains => {
-            failure_of_words(alloc, is_free, papers)
+    match task {
+        Task::Place(place) if place.sites => {
+            let given = SiteWords {
+                words: &place.fences,
+                is_free: place.free,
+                prices: offered(place, papers),
+            };
+            failure_of_sites(alloc, given, fault, voice, papers)
+        }
+        Task::Order(order) if order.sites => {
+            let given = SiteWords {
+                words: &order.fences,
+                is_free: order.free,
+                prices: None,
+            };
+            failure_of_sites(alloc, given, fault, voice, papers)
         }
         _ => failure_of(alloc, fault, voice, papers),
     }

@@ -16,7 +16,7 @@ use fs_app_files::{Paper, Papers, fault_object};
 use fs_app_io::{Output, Source, sources, tell, write_whole};
 use fs_app_sites::{
     File, Limits, Solved, Tests, add_copies, check_file, check_prices, first_at_fault, needs_text,
-    read_all_copies, run_sites,
+    read_all_copies, run_place_sites, run_sites,
 };
 use fs_app_sites_check::{run_sites_certified, run_sites_check};
 use fs_app_test::{Note, test_file, test_objects};
@@ -37,7 +37,7 @@ const TWO_SITES: &str = "two labels before one instruction name sites: write `no
 
 /// What is said of words that give sites no fences; the names of the sites follow.
 const SITE_WORDS: &str =
-    "each word is a site, `=` and a kind that has a price, and each site stands once; sites here:";
+    "each word is a site, `=` and a kind (with PRICES one that has a price), and each site stands once; sites here:";
 
 /// What `solve --sites` answers of its files. The first file that has a fault ends the run: the fault is said here,
 /// with the name of the file, and nothing but its object is printed.
@@ -332,23 +332,71 @@ fn clash_text(alloc: Global, fault: Fault, line: usize, name: &str) -> Result<St
     format!(in alloc; "{}:{}: {}\n  {}\n", name.as_str(), line, fault, TWO_SITES)
 }
 
-/// The failure of words that give the sites of the file no fences: which sites it has.
-pub(crate) fn failure_of_words(alloc: Global, is_free: bool, papers: &Papers<'_>) -> Failure {
+/// Words that give sites fences.
+#[derive(Clone, Copy)]
+pub(crate) struct SiteWords<'a> {
+    pub words: &'a [String],
+    /// Whether each slot without a site is one of its own.
+    pub is_free: bool,
+    /// The prices that the kinds must have, where some were read.
+    pub prices: Option<&'a [u8]>,
+}
+
+/// The failure of a run over the sites of one file.
+pub(crate) fn failure_of_sites(
+    alloc: Global,
+    words: SiteWords<'_>,
+    fault: Fault,
+    voice: Voice,
+    papers: &Papers<'_>,
+) -> Failure {
+    match fault {
+        Fault::BadFence if voice.explains => failure_of_words(alloc, words, papers),
+        Fault::BadLabel { .. } => failure_of_file(alloc, fault, voice, papers),
+        _ => failure_of(alloc, fault, voice, papers),
+    }
+}
+
+/// The failure of words that give the sites of the file no fences: the first one at fault, and which sites there are.
+fn failure_of_words(alloc: Global, words: SiteWords<'_>, papers: &Papers<'_>) -> Failure {
     let fault = Fault::BadFence;
-    match words_text(alloc, is_free, papers) {
+    match words_text(alloc, words, papers) {
         Ok(message) => Failure::Told(fault, message),
         Err(_) => Failure::NoAnswer(fault),
     }
 }
 
+/// The first of the words with which, and with those before it, the sites of the test get no fences; empty where there
+/// is none. In time of as many calls of `place` as there are words.
+fn word_at_fault<'a>(alloc: Global, test: &[u8], given: SiteWords<'a>) -> &'a str {
+    for (number, word) in given.words.iter().enumerate() {
+        let first = first_of(given.words, number.saturating_add(1));
+        let placed = run_place_sites(alloc, test, given.prices, first, given.is_free);
+        if matches!(placed, Err(Fault::BadFence)) {
+            return word.as_str();
+        }
+    }
+    ""
+}
+
+/// The first so many words, or all where there are fewer.
+fn first_of(words: &[String], count: usize) -> &[String] {
+    if count < words.len() {
+        &words[..count]
+    } else {
+        words
+    }
+}
+
 /// The message of such words.
-fn words_text(alloc: Global, is_free: bool, papers: &Papers<'_>) -> Result<String, Fault> {
+fn words_text(alloc: Global, words: SiteWords<'_>, papers: &Papers<'_>) -> Result<String, Fault> {
     let bytes = papers.test.bytes.as_slice();
     let test = read_test(alloc, bytes)?;
-    let copies = read_all_copies(alloc, bytes, &test, is_free)?;
+    let copies = read_all_copies(alloc, bytes, &test, words.is_free)?;
     let mut names = Vec::new(alloc);
     add_copies(alloc, &mut names, &copies)?;
-    let mut text = format!(in alloc; "SITE: {}\n  {}", Fault::BadFence, SITE_WORDS)?;
+    let word = shown_name(alloc, word_at_fault(alloc, bytes, words))?;
+    let mut text = format!(in alloc; "{}: {}\n  {}", word.as_str(), Fault::BadFence, SITE_WORDS)?;
     for name in &names {
         write!(text, " {}", name.as_str())?;
     }

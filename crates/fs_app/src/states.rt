@@ -2,15 +2,18 @@
 use crate::failure::Failure;
 use crate::program::{Voice, failure_of, report, say_notes};
 use fs_app_command_line::States;
-use fs_app_error_messages::explain_all_of_test;
+use fs_app_error_messages::{explain_all_of_test, shown_name};
 use fs_app_files::{Papers, fault_object};
 use fs_app_io::{Output, Source, Status, sources};
 use fs_app_plain::Forms;
 use fs_app_states::{
-    Compared, Log, LogError, MOST_BYTES, Shown, compare, left_over, read_log, run_states,
+    Block, Compared, Expected, Item, Log, LogError, MOST_BYTES, Shown, compare, left_over,
+    read_log, run_states,
 };
 use fs_kinds::Fault;
-use std::alloc::Global;
+use fs_litmus::read_test;
+use fs_litmus_tokens::number_of;
+use std::alloc::{AllocError, Global};
 use std::rt::Files;
 
 /// What is asked of each file.
@@ -121,15 +124,28 @@ fn say_fault<R: Files + Eprint + AllocGlobal>(
     Ok(())
 }
 
-/// The failure of a file. An item of `locations` is refused beside the reader of tests, so of it there is no message.
+/// The failure of a file. An item of `locations` is refused beside the reader of tests, so its message has no place.
 fn failure_of_file(alloc: Global, fault: Fault, voice: Voice, papers: &Papers<'_>) -> Failure {
     if !matches!(fault, Fault::Syntax { .. }) || !voice.explains {
         return failure_of(alloc, fault, voice, papers);
     }
     match explain_all_of_test(alloc, papers.test.name, &papers.test.bytes).unwrap_or(None) {
         Some(message) => Failure::Told(fault, message),
-        None => Failure::NoAnswer(fault),
+        None => match noted_text(alloc, fault, papers) {
+            Ok(message) => Failure::Told(fault, message),
+            Err(_) => Failure::NoAnswer(fault),
+        },
     }
+}
+
+/// The message of a fault that has no place.
+fn noted_text(alloc: Global, fault: Fault, papers: &Papers<'_>) -> Result<String, AllocError> {
+    let name = shown_name(alloc, papers.test.name)?;
+    let mut text = format!(in alloc; "{}: {}\n", name.as_str(), fault)?;
+    if let Some(noted) = papers.noted(alloc, fault)? {
+        write!(text, "  {}\n", noted.note.message.as_str())?;
+    }
+    Ok(text)
 }
 
 /// What the log at this path has of the tests of the files, in their order, and of others.
@@ -227,5 +243,39 @@ fn compared_file<'a, R: Files + Input + AllocGlobal>(
     papers: &mut Papers<'a>,
 ) -> Result<Compared, LogError> {
     papers.read_source(rt, source)?;
+    if papers.is_wide {
+        let test = read_test(rt.alloc(), &papers.test.bytes)?;
+        refuse_unsigned(log, test.name.as_str())?;
+    }
     compare(rt.alloc(), log, &papers.test.bytes, papers.fences)
+}
+
+/// Refuses the first state of the test that has a number which no word is, extended by its sign to 64 bits.
+fn refuse_unsigned(log: &Log<'_>, name: &str) -> Result<(), LogError> {
+    for block in log.as_slice() {
+        if block.name == name {
+            refuse_unsigned_in(block)?;
+        }
+    }
+    Ok(())
+}
+
+fn refuse_unsigned_in(block: &Block<'_>) -> Result<(), LogError> {
+    for seen in block.states.as_slice() {
+        if seen.items.as_slice().iter().any(|item| is_unsigned(item)) {
+            return Err(LogError::Line {
+                line: seen.line,
+                expected: Expected::Value,
+            });
+        }
+    }
+    Ok(())
+}
+
+/// Is the value a number without a minus that as a word is negative?
+fn is_unsigned(item: &Item<'_>) -> bool {
+    match number_of(item.value) {
+        Some(number) => number >> 31 == 1,
+        None => false,
+    }
 }

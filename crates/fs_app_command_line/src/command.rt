@@ -2,7 +2,6 @@
 use crate::completions::{Shell, script};
 use clap::error::ErrorKind;
 use clap::{Arg, ArgAction, ArgMatches, Command, Error, value_parser};
-use fs_kinds::read_place;
 use std::alloc::{AllocError, Global};
 
 /// The version of the program, which `--version` prints behind its name.
@@ -191,10 +190,10 @@ So is a fault, as of `test --json`, beside its line.
 Where the outcome is vacuous (`rvfence test --help`), a note on standard error says why.
 
 With --cert PATH a certificate of the answer is written to PATH first, which `check` reads
-and judges without a search.
+and judges without a search for executions.
 
-With --write FILE itself is printed with the fences: each in a row of its own before its
-instruction. Else nothing changes. Below `none` there is nothing to write, and it is printed
+With --write FILE itself is printed with the fences, in rows of their own before their
+instructions. Else nothing changes. Below `none` there is nothing to write, and it is printed
 as ever. With --dot FOLDER pictures are written of what --why tells, as `test` does it, and
 of the execution without each fence as SB-without-P0-2.dot.
 
@@ -249,7 +248,7 @@ they cost as written, in place, and found anew, anywhere. Then comes a line for 
   K is enough     kind K, which orders less, is enough in its place
   not needed      it can go
   orders nothing  no access stands before it, or none behind it
-  not for memory  it orders devices alone, and stays
+  not for memory  it orders no access to memory before another, and stays
 
 Behind these words `for memory` stands where a FENCE has i or o among its letters: what it
 orders of devices isn't judged. `(no price)` stands where PRICES lack the kind of a FENCE
@@ -264,12 +263,12 @@ Where the outcome can happen as the test is written, and with --anew, the test w
 FENCEs is searched as by `solve`, and the lines compare: `K instead` advises a kind of which
 the FENCE doesn't order all, `K is missing` asks for a fence before this instruction, and
 `at no slot` says that a label or a branch stands behind the FENCE. Follow these together.
-Where the outcome is vacuous there are no lines.
+Where the outcome is vacuous there are no lines, but with --anew.
 
 With --write the file is printed with what is advised in the places of its FENCEs; all else
 stays as it is, and so do FENCEs with i or o among their letters. With -i the file itself
-becomes so. Where the outcome can happen as the test is written, --write prints the test anew
-with the cheapest fences, and -i leaves the file.
+becomes so. Where the outcome can happen as the test is written, or a FENCE can't be changed in
+its place, --write prints the test anew with the cheapest fences, and -i leaves the file.
 
 Of several files, also those of a folder or a list as `test` takes them, each has its name
 above what is said of it, and an empty line below. A last line counts them:
@@ -290,7 +289,8 @@ solve --help`), for all tests together; other FENCEs stay. A line has a site, a 
 copies of it have, or `none`, what is advised, and where these copies stand.
 
 Exit status:
-  0  each FENCE is needed; with -i, the file is as advised
+  0  each FENCE is needed or not for memory; with --write nothing changes; with -i the file
+     is as advised
   1  there is something to change, or the outcome can happen as the test is written
   2  a fault, a line on standard error as `fault F11 NoTop` and a message that explains
      it, or a bad command line
@@ -318,7 +318,8 @@ With --json it prints a JSON object, in one line, with the answer as `solve --js
 
 So is a fault, as of `test --json`, beside its line.
 
-With --sites the certificate is of `solve --sites --cert`, for the same files in the same order.
+With --sites the certificate is of `solve --sites --cert`, for the same files in the same order,
+and what costs less is searched for.
 
 A certificate is a JSON file with the answer, a cycle for each candidate execution that
 shows the outcome (in version 4 a refutation of them all), a tree in which nothing better
@@ -847,10 +848,24 @@ fn why_of<'a>(found: &ArgMatches<'a>) -> Why<'a> {
         "" => Why::Untold,
         "all" => Why::All,
         _ if which == NO_PATH => Why::Few,
-        _ => match read_place(which) {
-            Some((Some(hart), Some(at))) => Why::Fence { hart, at },
-            _ => Why::Unclear(which),
+        _ => match hart_and_at(which) {
+            Some((hart, at)) => Why::Fence { hart, at },
+            None => Why::Unclear(which),
         },
+    }
+}
+
+/// The numbers of a place such as `P1:6`, none where the word is no place.
+fn hart_and_at(word: &str) -> Option<(u8, u8)> {
+    let (hart, at) = word.strip_prefix('P')?.split_once(':')?;
+    Some((number_of(hart)?, number_of(at)?))
+}
+
+/// The number that decimal digits write without leading zeros, none where it passes 255 or the word is no number.
+fn number_of(digits: &str) -> Option<u8> {
+    match digits.as_bytes() {
+        [b'+' | b'0', _, ..] => None,
+        _ => digits.parse().ok(),
     }
 }
 
@@ -1781,11 +1796,23 @@ fn with_command<'a>(
 fn command_of<'a>(alloc: Global, name: &'a str, many: bool) -> Result<Command<'a>, AllocError> {
     let mut command = bare_command(alloc, name);
     for parameter in PARAMETERS {
-        if is_of(parameter, name, many) {
-            command = with_argument(alloc, command, parameter, many)?;
-        }
+        command = with_its_own(alloc, command, parameter, many)?;
     }
     with_voice(alloc, command)
+}
+
+/// The command, with this argument if it is its own.
+fn with_its_own<'a>(
+    alloc: Global,
+    command: Command<'a>,
+    parameter: &Parameter,
+    many: bool,
+) -> Result<Command<'a>, AllocError> {
+    if is_of(parameter, command.get_name(), many) {
+        command.arg(argument_of(alloc, parameter, many)?)
+    } else {
+        Ok(command)
+    }
 }
 
 /// Is it an argument of the command of this name, which takes one file or any number?
@@ -1803,16 +1830,6 @@ fn bare_command<'a>(alloc: Global, name: &'a str) -> Command<'a> {
     Command::new(alloc, name)
         .about(about_of(name))
         .after_help(help_of(name))
-}
-
-/// The command with this argument.
-fn with_argument<'a>(
-    alloc: Global,
-    command: Command<'a>,
-    parameter: &Parameter,
-    many: bool,
-) -> Result<Command<'a>, AllocError> {
-    command.arg(argument_of(alloc, parameter, many)?)
 }
 
 /// The command with what each takes: how much is to be said on standard error.

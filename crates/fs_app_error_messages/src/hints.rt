@@ -148,7 +148,7 @@ fn rows_words(spot: Spot<'_, '_>) -> &'static str {
 }
 
 const FILTER_WORDS: &str =
-    "`filter F` isn't read here: write `F /\\ C` for the condition `C`, and behind `forall` `F => C`";
+    "`filter F` has its parentheses closed, and doesn't go with `--log`: there write `F /\\ C`, behind `forall` `F => C`";
 
 /// Is one of the tokens the word `filter`?
 fn has_filter(tokens: &[Token<'_>]) -> bool {
@@ -184,6 +184,11 @@ fn is_foreign(found: Kind<'_>) -> bool {
     )
 }
 
+/// Does it stand before a location in C?
+fn is_prefix(found: Kind<'_>) -> bool {
+    matches!(found, Kind::Sign(Mark::Star | Mark::Ampersand))
+}
+
 /// In the condition.
 fn condition_words(spot: Spot<'_, '_>) -> &'static str {
     let Some(found) = spot.ahead(0) else {
@@ -194,6 +199,9 @@ fn condition_words(spot: Spot<'_, '_>) -> &'static str {
     }
     if is_mark(spot.ahead(1), Mark::Greater) {
         return arrow_words(spot);
+    }
+    if is_prefix(found) && !is_word(spot.back(1)) {
+        return "a location is `x` or `[x]`, and `x` as a value: no `*` or `&` stands before it";
     }
     if is_foreign(found) || is_mark(spot.back(1), Mark::Less) || is_mark(spot.back(1), Mark::Bang) {
         return "of comparisons `=`, `==`, `<>` and `!=` are read, and of connectives `/\\`, `\\/`, `=>`, `~` and `not`";
@@ -206,6 +214,8 @@ fn condition_words(spot: Spot<'_, '_>) -> &'static str {
             "a `;` ends the condition: an atom, or a `)`, is missing before it",
         Kind::Word(_, _) =>
             "expected `/\\`, `\\/`, or the end of the condition or of its parentheses",
+        _ if is_sign_end(spot.back(1)) => "expected a value: a number, or the name of a location",
+        Kind::Sign(Mark::CloseParen) => "there is a `)` too many, or an atom is missing before it",
         _ => "expected an atom as `0:x5=1` or `x=1`",
     }
 }

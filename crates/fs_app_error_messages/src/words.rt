@@ -4,10 +4,12 @@ use fs_instr::Op;
 
 /// Words of calls and of jumps to registers.
 fn is_call(word: &str) -> bool {
-    matches!(
-        word,
-        "call" | "tail" | "ret" | "jalr" | "jr" | "ecall" | "ebreak"
-    )
+    matches!(word, "call" | "tail" | "ret" | "jalr" | "jr")
+}
+
+/// Words of traps.
+fn is_trap(word: &str) -> bool {
+    matches!(word, "ecall" | "ebreak")
 }
 
 /// Words of accesses of a byte or of half a word.
@@ -31,6 +33,9 @@ pub(crate) fn unknown_words(word: &str) -> &'static str {
     if is_call(word) {
         return "calls and jumps to registers are left out: write the code in line";
     }
+    if is_trap(word) {
+        return "traps are left out";
+    }
     other_words(word)
 }
 
@@ -42,7 +47,7 @@ fn other_words(word: &str) -> &'static str {
         return "not of this profile: write `andi x5,x6,255` for `zext.b x5,x6`";
     }
     if word == "lwu" {
-        return "registers have 32 bits here: write `lw`";
+        return "all accesses of a test have one width: write `lw`, or `ld` beside others of 64 bits";
     }
     if word == "pause" {
         return "`pause` is a hint to the processor, which orders nothing: leave it out";
@@ -51,7 +56,7 @@ fn other_words(word: &str) -> &'static str {
         return "the letters are operands: write `fence rw,w`, or `fence.tso`";
     }
     if word.starts_with("lw.") || word.starts_with("sw.") {
-        return "annotations of `lw` and `sw` are of the extension Zalasr: give `--zalasr`, or write a fence";
+        return "with `--zalasr` `lw` has `.aq` and `.aqrl`, and `sw` `.rl` and `.aqrl`; else write a fence";
     }
     "no mnemonic of this profile: docs/FORMAT.md, section 2, lists them"
 }

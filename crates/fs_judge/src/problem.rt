@@ -13,6 +13,7 @@ ghost use Rattle.fs_values.specs.ThinAir.{CanBeListed};
 ghost use Rattle.fs_judge.specs.Verdicts.{IsVerdict};
 ghost use Rattle.fs_judge.specs.inner.Findings.{IsSought};
 
+use crate::hunters::{hunter_asking, hunter_of};
 use crate::known::Known;
 use crate::listed::verdict_by_list;
 use crate::sought::{Sought, checked, refuted};
@@ -21,7 +22,6 @@ use crate::verdict::{Verdict, forbidden};
 use fs_cand_listing::check_number;
 use fs_cert_evidence::{Cycles, Inference};
 use fs_judge_hunt::{Alone, Found, Hunter, Kept};
-use fs_judge_runs::{hunter_asking, hunter_of};
 use fs_kinds::{Fault, List, Placement, Slot};
 use fs_model::Test;
 use fs_region_refutation::Basis;

@@ -14,9 +14,7 @@ use crate::slots::{SLOTS, add_wrong_slots};
 use crate::subtrees::{LOOKED, all_looked};
 use crate::texts::LOCK3;
 use crate::traces::{RUNS, add_wrong_lists, add_wrong_runs};
-use crate::wrong::add_wrong;
-use fs_kinds::Fault;
-use fs_tests_shared::told;
+use crate::wrong::add_answer;
 use std::alloc::{AllocError, Global};
 
 /// Adds what is read of texts otherwise than the tables say.
@@ -36,18 +34,6 @@ fn add_wrong_tests(alloc: Global, wrong: &mut String) -> Result<(), AllocError> 
     add_wrong_rules(alloc, RULES, wrong)?;
     add_wrong_runs(alloc, RUNS, wrong)?;
     add_wrong_lists(alloc, wrong)
-}
-
-/// Adds the answer, or the line of the fault, unless it is what was wanted.
-fn add_answer(
-    alloc: Global,
-    what: &str,
-    answer: Result<String, Fault>,
-    wanted: &str,
-    wrong: &mut String,
-) -> Result<(), AllocError> {
-    let found = told(alloc, answer)?;
-    add_wrong(what, &found, wanted, wrong)
 }
 
 /// Adds what hunts, judges and the checker of executions answer otherwise than is wanted.

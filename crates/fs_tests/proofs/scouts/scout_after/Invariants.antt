@@ -1,5 +1,5 @@
 use Rattle.std.proofs.Common.{◌≡◌}
-use Rattle.fs_tests_search.proofs.scouts.scout_after.Given as goal
+use Rattle.fs_tests.proofs.scouts.scout_after.Given as goal
 
 abbrev pub invariant-loop : goal.invariant-loop
 invariant-loop l = l.scout ≡ l.initial.scout

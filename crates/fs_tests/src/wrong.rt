@@ -1,6 +1,8 @@
 //! Rows of a table whose answer isn't the wanted one.
 
-use std::alloc::AllocError;
+use fs_kinds::Fault;
+use fs_tests_shared::told;
+use std::alloc::{AllocError, Global};
 
 /// Adds what was found of a row, as a line, unless it is what was wanted.
 pub(crate) fn add_wrong(
@@ -16,4 +18,16 @@ pub(crate) fn add_wrong(
     wrong.push_str(" of ")?;
     wrong.push_str(row)?;
     wrong.push_str("\n")
+}
+
+/// Adds the answer, or the line of the fault, unless it is what was wanted.
+pub(crate) fn add_answer(
+    alloc: Global,
+    what: &str,
+    answer: Result<String, Fault>,
+    wanted: &str,
+    wrong: &mut String,
+) -> Result<(), AllocError> {
+    let found = told(alloc, answer)?;
+    add_wrong(what, &found, wanted, wrong)
 }

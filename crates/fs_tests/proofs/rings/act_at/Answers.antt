@@ -1,7 +1,7 @@
 use Rattle.std.proofs.Common.{arith}
 use Rattle.std.proofs.lemmas.Option.{slice_get_read}
 use Rattle.fs_pool.proofs.Linked.{linked_set}
-use Rattle.fs_tests_search.proofs.rings.act_at.Goals as goal
+use Rattle.fs_tests.proofs.rings.act_at.Goals as goal
 
 pub returns : goal.returns
 returns c linked =

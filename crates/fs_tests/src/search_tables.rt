@@ -7,9 +7,7 @@ use crate::plain::wrong_made;
 use crate::rings::{PLAYED, all_played};
 use crate::scouts::{HELPED, may_help};
 use crate::states::{STATES, add_wrong_states};
-use crate::wrong::add_wrong;
-use fs_kinds::Fault;
-use fs_tests_shared::told;
+use crate::wrong::add_answer;
 use std::alloc::{AllocError, Global};
 
 /// Adds what is said of logs and states otherwise than the tables say.
@@ -18,18 +16,6 @@ fn add_wrong_rows(alloc: Global, wrong: &mut String) -> Result<(), AllocError> {
     add_wrong_compared(alloc, COMPARED, wrong)?;
     add_wrong_others(alloc, OTHERS, wrong)?;
     add_wrong_states(alloc, STATES, wrong)
-}
-
-/// Adds the answer, or the line of the fault, unless it is what was wanted.
-fn add_answer(
-    alloc: Global,
-    what: &str,
-    answer: Result<String, Fault>,
-    wanted: &str,
-    wrong: &mut String,
-) -> Result<(), AllocError> {
-    let found = told(alloc, answer)?;
-    add_wrong(what, &found, wanted, wrong)
 }
 
 /// Adds what the search, its hands and a plain program answer otherwise than is wanted.

@@ -1,4 +1,4 @@
-use Rattle.fs_tests_judge.proofs.laws.verdicts_rest_on_candidates.Goals as goal
+use Rattle.fs_tests.proofs.laws.verdicts_rest_on_candidates.Goals as goal
 
 pub returns-clause-forbidden : goal.returns-clause-forbidden
 returns-clause-forbidden c t listed p none allowed = none ((c.cycles_decide.ensures.decides t listed p).0 allowed)
