@@ -129,12 +129,17 @@ fn failure_of_file(alloc: Global, fault: Fault, voice: Voice, papers: &Papers<'_
     if !matches!(fault, Fault::Syntax { .. }) || !voice.explains {
         return failure_of(alloc, fault, voice, papers);
     }
-    match explain_all_of_test(alloc, papers.test.name, &papers.test.bytes).unwrap_or(None) {
-        Some(message) => Failure::Told(fault, message),
-        None => match noted_text(alloc, fault, papers) {
-            Ok(message) => Failure::Told(fault, message),
-            Err(_) => Failure::NoAnswer(fault),
-        },
+    match test_text(alloc, fault, papers) {
+        Ok(message) => Failure::Told(fault, message),
+        Err(_) => Failure::NoAnswer(fault),
+    }
+}
+
+/// The message of a fault of a test's form.
+fn test_text(alloc: Global, fault: Fault, papers: &Papers<'_>) -> Result<String, AllocError> {
+    match explain_all_of_test(alloc, papers.test.name, &papers.test.bytes)? {
+        Some(message) => Ok(message),
+        None => noted_text(alloc, fault, papers),
     }
 }
 

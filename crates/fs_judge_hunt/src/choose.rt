@@ -192,7 +192,7 @@ impl Chooser<'_> {
         let mut most = usize::MAX;
         let options = self.options(trail)?;
         for (number, choice) in options.choices.iter().enumerate() {
-            if options.is_late(number, choice, most) {
+            if best.is_some() && options.is_late(number, choice, most) {
                 break;
             }
             let limit = if best.is_some() {

@@ -149,13 +149,27 @@ fn vote(votes: &mut [u16; MOST_NAMES], load: usize) {
     }
 }
 
+/// Is it by a rule of preserved program order?
+fn is_rule(cause: Cause) -> bool {
+    !matches!(
+        cause,
+        Cause::ReadsFrom | Cause::Coherence | Cause::FromReads
+    )
+}
+
+/// Do the two lack the same? Of rules one does as well as another.
+fn are_alike(known: &Edge, edge: &Edge) -> bool {
+    known.name == edge.name
+        && (known.cause == edge.cause || (is_rule(known.cause) && is_rule(edge.cause)))
+}
+
 /// Are the two one cycle, from the same name on?
 fn are_same(known: &[Edge], edges: &[Edge]) -> bool {
     if known.len() != edges.len() {
         return false;
     }
     for place in 0..known.len().min(edges.len()) {
-        if known[place] != edges[place] {
+        if !are_alike(&known[place], &edges[place]) {
             return false;
         }
     }

@@ -9,12 +9,14 @@ use crate::splits::Decision;
 use crate::trail::Trail;
 use std::alloc::AllocError;
 
-/// Where a split leaves few regions open, so many of those that cycles ask for are tried, and no others.
+/// Where cycles ask for splits, so many of these are tried, and no others where one of them does.
 const MOST_ASKED: usize = 8;
 
-/// So many open regions are few. Where a split leaves few, harts are not looked at of which the wanted conditions don't
-/// speak; where it leaves more, a split of theirs is to leave fewer than few.
-const FEW_OPEN: usize = 2;
+/// Where a split leaves so few regions open, harts are not looked at of which the wanted conditions don't speak.
+const FEW_OPEN: usize = 3;
+
+/// Where one leaves more, a split of theirs is taken only where it leaves fewer than these: it only narrows the region.
+const SEVERAL_OPEN: usize = 2;
 
 /// Which splits are tried before others.
 #[derive(Clone, Copy, PartialEq, Eq, PartialOrd, Ord)]
@@ -40,14 +42,15 @@ pub(crate) struct Choice {
 #[derive(Drop)]
 pub(crate) struct Options {
     pub(crate) choices: Vec<Choice>,
-    /// How many are tried at most, where one of them leaves few regions open.
+    /// How many are tried at most, where one of them does.
     most: usize,
 }
 
 impl Options {
-    /// Is the split of this number not worth a try, where another one leaves so many regions open?
+    /// Is the split of this number not worth a try, where another one leaves so many regions open? Behind what cycles
+    /// ask for nothing is.
     pub(crate) fn is_late(&self, number: usize, choice: &Choice, open: usize) -> bool {
-        open <= FEW_OPEN && (number >= self.most || choice.class == Class::Other)
+        number >= self.most || (open <= FEW_OPEN && choice.class == Class::Other)
     }
 }
 
@@ -55,7 +58,7 @@ impl Choice {
     /// It is to leave fewer regions open than this, where another split leaves so many.
     pub(crate) fn limit(&self, open: usize) -> usize {
         if self.class == Class::Other {
-            open.min(FEW_OPEN)
+            open.min(SEVERAL_OPEN)
         } else {
             open
         }
