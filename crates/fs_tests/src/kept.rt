@@ -1,7 +1,7 @@
 //! Hunts that begin with what earlier ones have kept.
 
 use crate::hunts::prepare;
-use crate::texts::{ALWAYS, CASES, LOCK, LOCK3, WAITERS};
+use crate::texts::{ACTOR, ALWAYS, CASES, LOCK, LOCK3, WAITERS};
 use fs_judge::{Judge, Verdict};
 use fs_judge_hunt::{Found, Hunter, Kept};
 use fs_kinds::{Fault, Placement};
@@ -24,6 +24,25 @@ fn hunted_anew(alloc: Global, hunter: &Hunter, placement: &Placement) -> Result<
     let mut none = Kept::new();
     hunter.hunt(alloc, &mut none, placement, MOST)?;
     Ok(none)
+}
+
+/// Messages come before swaps, and the last hart's swap before its loads.
+const ACTOR_FENCES: &str = "P0:1=w,w P1:1=w,w P2:1=w,w P3:1=w,w P4:1=r,r";
+
+/// A hunt that tries other splits where known cycles ask for some looks at more regions.
+const FEW_LOOKS: usize = 1500;
+
+/// Writes how the hunt on the actor ends, and how many regions it looks at where they are many.
+pub(crate) fn hunted_by_few_looks(alloc: Global) -> Result<String, Fault> {
+    let ready = prepare(alloc, ACTOR)?;
+    let placement = placement_of(alloc, &ready.test, ACTOR_FENCES)?;
+    let mut kept = Kept::new();
+    let found = ready.hunter.hunt(alloc, &mut kept, &placement, MOST)?;
+    let mut text = String::from_str(alloc, said_of(&found))?;
+    if kept.looks() > FEW_LOOKS {
+        write!(text, " by {} looks", kept.looks())?;
+    }
+    Ok(text)
 }
 
 /// Writes how a hunt with these fences ends, whether it looks at no region, and whether it looks at fewer than half of

@@ -174,3 +174,23 @@ word=1;
  lw x7,0(x8)         | lw x7,0(x8)         | lw x7,0(x8)         | lw x7,0(x8)         | lw x7,0(x8) ;
 exists (0:x7=1 /\\ 1:x7=1 /\\ 2:x7=1 /\\ 3:x7=1 /\\ ~(4:x7=4))
 ";
+
+/// Four harts each leave a message and then find by a swap that a fifth one still runs. This one clears that by a swap
+/// before it reads the messages. The outcome is that all four found it running, and it misses a message.
+pub(crate) const ACTOR: &str = "RISCV ACTOR
+{
+0:x5=1; 0:x6=m; 0:x8=runs;
+1:x5=1; 1:x6=n; 1:x8=runs;
+2:x5=1; 2:x6=o; 2:x8=runs;
+3:x5=1; 3:x6=p; 3:x8=runs;
+4:x8=runs; 4:x20=m; 4:x21=n; 4:x22=o; 4:x23=p;
+runs=1;
+}
+ P0                   | P1                   | P2                   | P3                   | P4                   ;
+ sw x5,0(x6)          | sw x5,0(x6)          | sw x5,0(x6)          | sw x5,0(x6)          | amoswap.w x9,x0,(x8) ;
+ amoswap.w x7,x5,(x8) | amoswap.w x7,x5,(x8) | amoswap.w x7,x5,(x8) | amoswap.w x7,x5,(x8) | lw x10,0(x20)        ;
+                      |                      |                      |                      | lw x11,0(x21)        ;
+                      |                      |                      |                      | lw x12,0(x22)        ;
+                      |                      |                      |                      | lw x13,0(x23)        ;
+exists (0:x7=1 /\\ 1:x7=1 /\\ 2:x7=1 /\\ 3:x7=1 /\\ (4:x10=0 \\/ 4:x11=0 \\/ 4:x12=0 \\/ 4:x13=0))
+";

@@ -5,7 +5,7 @@ use crate::executions::wrong_counts;
 use crate::form::{FORMS, add_wrong_column, add_wrong_forms};
 use crate::hunts::{BOUNDS, FOUND, LONG, all_hunted, bounds_of};
 use crate::judges::{JUDGED, judged_in_turn};
-use crate::kept::{KEPT, LOCK3_FENCES, SAID, hunted_in_turn, said_in_turn};
+use crate::kept::{KEPT, LOCK3_FENCES, SAID, hunted_by_few_looks, hunted_in_turn, said_in_turn};
 use crate::laws::verdicts_rest_on_candidates;
 use crate::rewriting::{REWRITTEN, add_wrong_rewritten};
 use crate::runs::{DONE, RULES, add_wrong_done, add_wrong_rules};
@@ -49,6 +49,7 @@ fn add_wrong_answers(alloc: Global, wrong: &mut String) -> Result<(), AllocError
         wrong,
     )?;
     add_answer(alloc, "kept trees", said_in_turn(alloc), SAID, wrong)?;
+    add_answer(alloc, "looks", hunted_by_few_looks(alloc), "refuted", wrong)?;
     add_answer(alloc, "subtrees", all_looked(alloc, LOCK3), LOOKED, wrong)?;
     add_answer(alloc, "judges", judged_in_turn(alloc), JUDGED, wrong)
 }
