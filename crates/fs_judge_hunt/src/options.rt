@@ -9,10 +9,11 @@ use crate::splits::Decision;
 use crate::trail::Trail;
 use std::alloc::AllocError;
 
-/// Where cycles ask for splits, so many of these are tried, and no others where one of them does.
+/// Where cycles ask for splits, so many of these are tried, and no others where one of them leaves few regions open.
 const MOST_ASKED: usize = 8;
 
-/// Where a split leaves so few regions open, harts are not looked at of which the wanted conditions don't speak.
+/// Where a split leaves so few regions open, no other is tried but of those that cycles ask for and of the harts of which
+/// the wanted conditions speak.
 const FEW_OPEN: usize = 3;
 
 /// Where one leaves more, a split of theirs is taken only where it leaves fewer than these: it only narrows the region.
@@ -47,10 +48,10 @@ pub(crate) struct Options {
 }
 
 impl Options {
-    /// Is the split of this number not worth a try, where another one leaves so many regions open? Behind what cycles
-    /// ask for nothing is.
+    /// Is the split of this number not worth a try, where another one leaves so many regions open? Where these are few
+    /// none is that stands behind those that cycles ask for.
     pub(crate) fn is_late(&self, number: usize, choice: &Choice, open: usize) -> bool {
-        number >= self.most || (open <= FEW_OPEN && choice.class == Class::Other)
+        open <= FEW_OPEN && (number >= self.most || choice.class == Class::Other)
     }
 }
 
