@@ -16,7 +16,7 @@ use Rattle.fs_app_test.specs.declared.said.Kind.TheVariants as kind
 use Rattle.fs_app_test.specs.declared.said.Line.{Line}
 use Rattle.fs_app_test.specs.SaidVerdicts.{IsForbidden, Says, SaysAllowed, witness_in}
 use Rattle.fs_app_test.specs.Verdicts.{IsTested, NamesFault, SaysOfBytes}
-use Rattle.fs_app_files.specs.Judging.{IsJudged}
+use Rattle.fs_app_test.specs.Judging.{IsJudged}
 use Rattle.fs_app_why.specs.Why.{IsAllowed, IsNotShown}
 use Rattle.fs_app.specs.Telling.{is_allowed, is_forbidden}
 

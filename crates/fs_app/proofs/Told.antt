@@ -4,11 +4,11 @@ use Rattle.std.specs.List.{AllZip, slice_index_or}
 use Rattle.std.proofs.lemmas.List.{append-nil}
 use Rattle.fs_app_io.specs.declared.status.Output.{Output}
 use Rattle.fs_app_io.specs.declared.status.Status.{Status}
-use Rattle.fs_app_solve.specs.Solve.{IsCertified}
+use Rattle.fs_app_solve_and_check.specs.Solve.{IsCertified}
 use Rattle.fs_app_why.specs.Why.{IsCertifiedWhy}
 use Rattle.fs_app.specs.Answers.{IsSolvedAndTold, IsSolvedIn}
 use Rattle.fs_app_test.specs.declared.said.Line.{Line}
-use Rattle.fs_app_why_kinds.specs.declared.told.Telling.{Telling}
+use Rattle.fs_app_why.specs.declared.telling.Telling.{Telling}
 use Rattle.fs_app.specs.Telling.{AreToldFrom, IsSolveWhy, IsTestTold, IsToldBy}
 
 -- where it isn't asked for nothing is told

@@ -9,7 +9,7 @@ use Rattle.fs_board_search.specs.Priced.{IsPricedAnswer}
 use Rattle.fs_board_search.proofs.PricedAnswers.{priced-answer}
 use Rattle.fs_pool_workers.specs.Answers.{Solved}
 use Rattle.fs_pool_workers.specs.Forms as answer
-use Rattle.fs_app_solve.specs.Found.{IsFound}
+use Rattle.fs_app_solve_and_check.specs.Found.{IsFound}
 use Rattle.fs_app_file_text.specs.Inserted.{IsInserted}
 use Rattle.fs_app.specs.Answers.{IsFencedFile}
 

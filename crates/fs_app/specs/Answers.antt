@@ -4,30 +4,30 @@ use Rattle.fs_app_io.specs.declared.source.Source.{Source}
 use Rattle.fs_app_io.specs.declared.status.Output.{Output}
 use Rattle.fs_app_io.specs.declared.status.Status.{Status}
 use Rattle.fs_app_io.specs.declared.status.Status.TheVariants.{Success, Denied, Failure}
-use Rattle.fs_app_place_order.specs.Place.{ArePricesOf, IsFencedText, IsFirstPlaceFault}
-use Rattle.fs_app_place_order.specs.Order.{IsOrderAnswer, IsFirstOrderFault}
+use Rattle.fs_app_place_and_order.specs.Place.{ArePricesOf, IsFencedText, IsFirstPlaceFault}
+use Rattle.fs_app_place_and_order.specs.Order.{IsOrderAnswer, IsFirstOrderFault}
 use Rattle.fs_app_sites.specs.Place.{IsSitesText, IsFirstSitesPlaceFault}
 use Rattle.fs_app_sites.specs.Order.{IsSitesOrderAnswer, IsFirstSitesOrderFault}
 use Rattle.fs_report.specs.Objects.{AreOneAnswer}
-use Rattle.fs_app_solve.specs.Solve.{IsSolved}
+use Rattle.fs_app_solve_and_check.specs.Solve.{IsSolved}
 use Rattle.fs_app_file_text.specs.Inserted.{IsInserted}
 use Rattle.fs_app_sites.specs.Solved.{IsSolved as IsSitesSolved}
 use Rattle.fs_app_sites.specs.declared.content.File.{File}
 use Rattle.fs_app_sites.specs.declared.content.Tests.{Tests}
-use Rattle.fs_app_sites_audit.specs.Audited.{IsAudited as IsSitesAudited}
-use Rattle.fs_app_sites_check.specs.Checked.{IsSitesChecked}
+use Rattle.fs_app_sites_check_and_audit.specs.Audited.{IsAudited as IsSitesAudited}
+use Rattle.fs_app_sites_check_and_audit.specs.Checked.{IsSitesChecked}
 use Rattle.fs_app_audit.specs.Audit.{IsAnew, IsAudited, IsWritten, IsFirstAnewFault, IsFirstAuditFault, IsFirstWrittenFault}
 use Rattle.fs_app_audit.specs.Blocks.{AreBlocks, are_named, blocks_status, blocks_text}
 use Rattle.fs_app_audit.specs.declared.blocks.Block.{Block}
-use Rattle.fs_app_audit_json.specs.Files.{AreObjectBlocks, objects_text}
-use Rattle.fs_app_audit_why.specs.Why.{IsAuditWhy}
+use Rattle.fs_app_audit_json_and_why.specs.Files.{AreObjectBlocks, objects_text}
+use Rattle.fs_app_audit_json_and_why.specs.Why.{IsAuditWhy}
 use Rattle.fs_kinds.specs.declared.fault.Fault.{Fault}
 use Rattle.fs_kinds.specs.declared.placement.Entry.{Entry}
 use Rattle.fs_kinds.specs.PriceTable.{PriceTable}
 use Rattle.fs_litmus.specs.Reads.{Reads}
 use Rattle.fs_model.specs.Allows.{IsCheapest}
 use Rattle.fs_model.specs.declared.test.Test.{Test as Program}
-use Rattle.fs_app_check.specs.Check.{IsChecked, AreOneVerdict}
+use Rattle.fs_app_solve_and_check.specs.Check.{IsChecked, AreOneVerdict}
 use Rattle.fs_app_test.specs.declared.said.Kind.{Kind}
 use Rattle.fs_app_test.specs.declared.said.Line.{Line}
 use Rattle.fs_app_test.specs.Status.{report_status}
@@ -44,9 +44,9 @@ use Rattle.fs_app_command_line.specs.declared.command.Audit.{Audit}
 use Rattle.fs_app_command_line.specs.declared.command.AuditSites.{AuditSites}
 use Rattle.fs_app_command_line.specs.declared.command.Check.{Check}
 use Rattle.fs_app_command_line.specs.declared.command.CheckSites.{CheckSites}
-use Rattle.fs_app_files.specs.declared.papers.Papers.{Papers}
-use Rattle.fs_app_files.specs.Judging.{AreJudged}
-use Rattle.fs_app_why_kinds.specs.declared.told.Telling.{Telling}
+use Rattle.fs_app_test.specs.declared.papers.Papers.{Papers}
+use Rattle.fs_app_test.specs.Judging.{AreJudged}
+use Rattle.fs_app_why.specs.declared.telling.Telling.{Telling}
 use Rattle.fs_app.specs.Telling.{AreTold, IsSolveWhy, IsTold, IsToldBy, is_yes, telling_of}
 
 -- the bytes of the prices that were read, where `place` is to read some

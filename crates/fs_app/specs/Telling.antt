@@ -5,15 +5,15 @@ use Rattle.std.specs.List.{slice_index_or}
 use Rattle.fs_model.specs.Witness.{Witness}
 use Rattle.fs_app_io.specs.declared.status.Status.{Status}
 use Rattle.fs_app_io.specs.declared.status.Status.TheVariants.{Success}
-use Rattle.fs_app_solve.specs.Solve.{IsCertified}
+use Rattle.fs_app_solve_and_check.specs.Solve.{IsCertified}
 use Rattle.fs_app_test.specs.declared.said.Kind.{Kind}
 use Rattle.fs_app_test.specs.declared.said.Kind.TheVariants as kind
 use Rattle.fs_app_test.specs.declared.said.Line.{Line}
 use Rattle.fs_app_test.specs.Report.{shown_name}
 use Rattle.fs_app_test.specs.SaidVerdicts.{witness_in}
 use Rattle.fs_app_why.specs.Why.{IsAllowedWhy, IsCertifiedWhy, IsForbiddenWhy}
-use Rattle.fs_app_why_kinds.specs.declared.told.Telling.{Telling}
-use Rattle.fs_app_why_kinds.specs.declared.told.Telling.TheVariants.{Few, All, One}
+use Rattle.fs_app_why.specs.declared.telling.Telling.{Telling}
+use Rattle.fs_app_why.specs.declared.telling.Telling.TheVariants.{Few, All, One}
 use Rattle.fs_app_command_line.specs.declared.command.Why.{Why}
 use Rattle.fs_app_command_line.specs.declared.command.Why.TheVariants as why
 

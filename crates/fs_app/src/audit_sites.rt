@@ -2,16 +2,16 @@
 
 ghost use Rattle.std.specs.Prelude.{◌≡◌, List, IfOk, string_bytes};
 ghost use Rattle.fs_app_sites.specs.declared.content.File.{File as SitesFile};
-ghost use Rattle.fs_app_sites_audit.specs.Audited.{IsAudited};
+ghost use Rattle.fs_app_sites_check_and_audit.specs.Audited.{IsAudited};
 ghost use Rattle.fs_app.specs.Answers.{AnswersAuditSites};
 
 use crate::program::{Voice, say_notes};
 use crate::sites::{MOST_ROUNDS, blame, failed, read_tests};
 use fs_app_command_line::{AuditSites, MOST_NODES};
-use fs_app_files::Papers;
 use fs_app_io::{Output, Source, sources};
 use fs_app_sites::check_prices;
-use fs_app_sites_audit::run_audit_sites;
+use fs_app_sites_check_and_audit::run_audit_sites;
+use fs_app_test::Papers;
 use fs_kinds::Fault;
 use std::rt::Files;
 

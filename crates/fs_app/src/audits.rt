@@ -4,20 +4,21 @@ ghost use Rattle.std.specs.Prelude.{◌≡◌, ◌≤◌, ◌∷◌, [], IfOk, I
 ghost use Rattle.fs_app.specs.Answers.{AnswersAudit, AnswersBlocks, AnswersObjects, AnswersOneAudit};
 ghost use Rattle.fs_app.specs.Answers.{IsAuditFault, IsAuditText, wants_one};
 ghost use Rattle.fs_app.specs.Telling.{IsToldBy};
-ghost use Rattle.fs_app_audit_why.specs.Why.{IsAuditWhy};
+ghost use Rattle.fs_app_audit_json_and_why.specs.Why.{IsAuditWhy};
 
 use crate::failure::Failure;
 use crate::program::{Voice, mended, refused, report};
 use crate::telling::{telling_of, with_below};
 use fs_app_audit::{Found, audit_file, blocks_of, blocks_output, run_anew, run_audit, run_written};
-use fs_app_audit_json::{FoundObject, object_of_file, objects_of, objects_output};
-use fs_app_audit_why::why_audit;
+use fs_app_audit_json_and_why::{
+    FoundObject, object_of_file, objects_of, objects_output, why_audit,
+};
 use fs_app_command_line::{Audit, MOST_NODES};
 use fs_app_file_text::keeps;
-use fs_app_files::{Papers, Unusable, message_of_file, plain_text};
 use fs_app_io::{Output, Source, Status, sources, tell, write_whole};
 use fs_app_plain::{Forms, Plain};
-use fs_app_why_kinds::Telling;
+use fs_app_test::{Papers, Unusable, message_of_file, plain_text};
+use fs_app_why::Telling;
 use fs_kinds::{Fault, read_prices};
 use std::alloc::{AllocError, Global};
 use std::rt::Files;

@@ -1,7 +1,7 @@
 //! Why a run ends without an answer.
-use fs_app_files::ListError;
 use fs_app_io::Status;
 use fs_app_states::LogError;
+use fs_app_test::ListError;
 use fs_kinds::Fault;
 use thiserror::Error;
 

@@ -2,18 +2,17 @@
 
 ghost use Rattle.std.specs.Prelude.{ℕ};
 ghost use Rattle.std.specs.Arc.{arc_value};
-ghost use Rattle.fs_app_solve.specs.Found.{IsFound};
+ghost use Rattle.fs_app_solve_and_check.specs.Found.{IsFound};
 
 use crate::telling::{telling_of, test_at};
 use fs_app_command_line::Why;
 use fs_app_dot::{
     Picture, allowed_pictures, certified_pictures, forbidden_pictures, order_pictures,
 };
-use fs_app_files::{Judged, Papers};
 use fs_app_io::write_whole;
-use fs_app_solve::Found;
-use fs_app_test::{Kind, Line};
-use fs_app_why_kinds::Telling;
+use fs_app_solve_and_check::Found;
+use fs_app_test::{Judged, Kind, Line, Papers};
+use fs_app_why::Telling;
 use fs_kinds::Fault;
 use std::alloc::Global;
 use std::rt::Files;

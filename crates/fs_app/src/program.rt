@@ -5,9 +5,9 @@ ghost use Rattle.std.specs.Prelude.{map, string_bytes};
 ghost use Rattle.std.specs.Arc.{arc_value};
 ghost use Rattle.std.specs.Option.{option_copied};
 ghost use Rattle.fs_app_io.specs.declared.status.Status.TheVariants.{Success, Denied, Failure as Failed};
-ghost use Rattle.fs_app_files.specs.Judging.{AreJudged};
-ghost use Rattle.fs_app_solve.specs.Found.{IsFound, Prints, lines_of};
-ghost use Rattle.fs_app_check.specs.Check.{IsChecked, AreOneVerdict, IsFirstCheckFault};
+ghost use Rattle.fs_app_test.specs.Judging.{AreJudged};
+ghost use Rattle.fs_app_solve_and_check.specs.Found.{IsFound, Prints, lines_of};
+ghost use Rattle.fs_app_solve_and_check.specs.Check.{IsChecked, AreOneVerdict, IsFirstCheckFault};
 ghost use Rattle.fs_app_test.specs.Report.{report_text, json_text};
 ghost use Rattle.fs_app_test.specs.Status.{report_status};
 ghost use Rattle.fs_app.specs.Answers.{IsSolveText, IsSolvedAndTold, IsSolvedIn, offered, in_form, Answers};
@@ -25,24 +25,23 @@ use crate::states::{answer_log, answer_states};
 use crate::telling::{answer_why, is_yes, order_why, solve_why, telling_of, tests_why, with_below};
 use crate::write::fenced_file;
 use clap::error::ErrorKind;
-use fs_app_check::{Checked, run_check};
 use fs_app_command_line::{
     Check, Expectations, MOST_NODES, MOST_WORKERS, Order, Place, Request, Solve, Task, Test, Why,
     completion_script, read_request,
 };
 use fs_app_error_messages::shown_name;
-use fs_app_files::{
-    Expecting, Judged, ListError, Papers, Wants, fault_object, in_width, judge_files, read_rows,
-};
 use fs_app_io::{
     INPUT_LIMIT, Output, Status, has_stack, room_of, sources, tell, write_whole, write_within,
 };
-use fs_app_place_order::{run_order, run_place};
+use fs_app_place_and_order::{run_order, run_place};
 use fs_app_plain::{Forms, in_file, widened};
 use fs_app_sites::{run_order_sites, run_place_sites};
-use fs_app_solve::{Found, run_solve, run_solve_alone};
-use fs_app_test::{Line, test_objects, test_report, vacuous_note};
-use fs_app_why_kinds::Telling;
+use fs_app_solve_and_check::{Checked, Found, run_check, run_solve, run_solve_alone};
+use fs_app_test::{
+    Expecting, Judged, Line, ListError, Papers, Wants, fault_object, in_width, judge_files,
+    read_rows, test_objects, test_report, vacuous_note,
+};
+use fs_app_why::Telling;
 use fs_kinds::Fault;
 use std::alloc::Global;
 use std::process::ExitCode;

@@ -1,6 +1,6 @@
 //! The line on standard error that says how far a search is.
 
-use fs_app_solve::{Gate, Open, Watch};
+use fs_app_solve_and_check::{Gate, Open, Watch};
 use std::fmt::Display;
 use std::rt::Clock;
 use std::sync::atomic::{AtomicBool, AtomicU64, AtomicUsize, Ordering};

@@ -4,22 +4,21 @@ ghost use Rattle.std.specs.Prelude.{◌≡◌, [], false, IfOk, string_bytes};
 ghost use Rattle.fs_app_io.specs.declared.status.Status.TheVariants.{Failure as Failed};
 ghost use Rattle.fs_app_sites.specs.Solved.{IsSolved};
 ghost use Rattle.fs_app_sites.specs.declared.content.Tests.{Tests as Questioned};
-ghost use Rattle.fs_app_sites_check.specs.Checked.{IsSitesChecked};
+ghost use Rattle.fs_app_sites_check_and_audit.specs.Checked.{IsSitesChecked};
 ghost use Rattle.fs_app.specs.Answers.{AnswersSites, AnswersCheckSites};
 
 use crate::failure::Failure;
 use crate::program::{CERTIFICATE_LIMIT, Voice, failure_of, in_form, refused, report, say_notes};
-use fs_app_check::Checked;
 use fs_app_command_line::{CheckSites, MOST_NODES, MOST_WORKERS, Sites};
 use fs_app_error_messages::{explain_test, shown_name};
-use fs_app_files::{Paper, Papers, fault_object};
 use fs_app_io::{Output, Source, sources, tell, write_whole};
 use fs_app_sites::{
     File, Limits, Solved, Tests, add_copies, check_file, check_prices, first_at_fault, needs_text,
     read_all_copies, run_place_sites, run_sites,
 };
-use fs_app_sites_check::{run_sites_certified, run_sites_check};
-use fs_app_test::{Note, test_file, test_objects};
+use fs_app_sites_check_and_audit::{run_sites_certified, run_sites_check};
+use fs_app_solve_and_check::Checked;
+use fs_app_test::{Note, Paper, Papers, fault_object, test_file, test_objects};
 use fs_kinds::{Fault, List};
 use fs_litmus::read_test;
 use std::alloc::{AllocError, Global};

@@ -3,13 +3,13 @@ use crate::failure::Failure;
 use crate::program::{Voice, failure_of, report, say_notes};
 use fs_app_command_line::States;
 use fs_app_error_messages::{explain_all_of_test, shown_name};
-use fs_app_files::{Papers, fault_object};
 use fs_app_io::{Output, Source, Status, sources};
 use fs_app_plain::Forms;
 use fs_app_states::{
     Block, Compared, Expected, Item, Log, LogError, MOST_BYTES, Shown, compare, left_over,
     read_log, run_states,
 };
+use fs_app_test::{Papers, fault_object};
 use fs_kinds::Fault;
 use fs_litmus::read_test;
 use fs_litmus_tokens::number_of;

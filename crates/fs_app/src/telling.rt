@@ -2,8 +2,8 @@
 
 ghost use Rattle.std.specs.Prelude.{◌≡◌, ◌++◌, ℕ, Bool, true, List, [], IfOk, OnOk, codes, map, string_bytes};
 ghost use Rattle.std.specs.List.{slice_index_or};
-ghost use Rattle.fs_app_files.specs.Judging.{AreJudged, IsJudged};
-ghost use Rattle.fs_app_solve.specs.Solve.{IsCertified};
+ghost use Rattle.fs_app_test.specs.Judging.{AreJudged, IsJudged};
+ghost use Rattle.fs_app_solve_and_check.specs.Solve.{IsCertified};
 ghost use Rattle.fs_app_test.specs.Report.{shown_name};
 ghost use Rattle.fs_app_test.specs.SaidVerdicts.{witness_in};
 ghost use Rattle.fs_app_why.specs.Why.{IsCertifiedWhy, IsOrderWhy};
@@ -13,11 +13,9 @@ ghost use Rattle.fs_app.specs.Telling.{is_allowed, is_forbidden, is_yes, named, 
 
 use fs_app_command_line::Why;
 use fs_app_error_messages::shown_name;
-use fs_app_files::Papers;
 use fs_app_io::{Output, Status};
-use fs_app_test::{Kind, Line};
-use fs_app_why::{why_allowed, why_certified, why_forbidden, why_order};
-use fs_app_why_kinds::Telling;
+use fs_app_test::{Kind, Line, Papers};
+use fs_app_why::{Telling, why_allowed, why_certified, why_forbidden, why_order};
 use fs_kinds::Fault;
 use std::alloc::{AllocError, Global};
 

@@ -2,11 +2,11 @@
 
 ghost use Rattle.std.specs.Prelude.{ℕ, List, IfOk, IfSome, string_bytes};
 ghost use Rattle.std.specs.Arc.{arc_value};
-ghost use Rattle.fs_app_solve.specs.Found.{IsFound};
+ghost use Rattle.fs_app_solve_and_check.specs.Found.{IsFound};
 ghost use Rattle.fs_app.specs.Answers.{IsFencedFile};
 
 use fs_app_file_text::inserted;
-use fs_app_solve::Found;
+use fs_app_solve_and_check::Found;
 use fs_board_search::Answer;
 use fs_kinds::Fault;
 use std::alloc::Global;

@@ -10,8 +10,8 @@ use Rattle.fs_litmus.specs.Faults.{IsTestFault}
 use Rattle.fs_litmus.specs.Reads.{Reads}
 use Rattle.fs_model_laws.specs.InPlace.{emptied}
 use Rattle.fs_board_search.specs.Answers.{IsLimitFault}
-use Rattle.fs_app_place_order.specs.Place.{ArePricesOf}
-use Rattle.fs_app_place_order.proofs.Faults.{is_memory}
+use Rattle.fs_app_place_and_order.specs.Place.{ArePricesOf}
+use Rattle.fs_app_place_and_order.proofs.Faults.{is_memory}
 use Rattle.fs_app_test.specs.declared.said.Kind.{Kind}
 use Rattle.fs_app_test.specs.declared.said.Kind.TheVariants.{Forbidden, Vacuous, Faulty}
 use Rattle.fs_app_test.specs.SaidVerdicts.{IsForbidden, IsTestedAs, Says}

@@ -10,8 +10,8 @@ use Rattle.fs_cert_evidence.specs.Sizes.{IsUnanswered}
 use Rattle.fs_litmus.specs.Reads.{Reads}
 use Rattle.fs_litmus.specs.Faults.{IsBroken, IsTestFault}
 use Rattle.fs_litmus.proofs.FrontFaults.{unbroken}
-use Rattle.fs_app_place_order.specs.Place.{ArePricesOf, IsPricesFault}
-use Rattle.fs_app_place_order.proofs.Faults.{is_memory}
+use Rattle.fs_app_place_and_order.specs.Place.{ArePricesOf, IsPricesFault}
+use Rattle.fs_app_place_and_order.proofs.Faults.{is_memory}
 use Rattle.fs_app_test.specs.SaidVerdicts.{IsFaultOf}
 use Rattle.fs_app_audit.specs.Audit.{bare, IsTested, IsFirstFault, of_prices, of_test, of_written, of_search, of_memory}
 use Rattle.fs_app_audit.specs.declared.asked.Purpose.{Purpose}

@@ -9,7 +9,8 @@ use Rattle.fs_model.specs.declared.test.Test.{Test}
 use Rattle.fs_model.specs.Allows.{no_fences}
 use Rattle.fs_model.specs.Placed.{fits}
 use Rattle.fs_model.specs.Slots.{slots}
-use Rattle.fs_app_place_order.proofs.Placements.{and_left, offered-all_with, offered-with_kind, slots_of-all_with, slots_of-with_kind}
+use Rattle.fs_app_place_and_order.proofs.Placements.{and_left, offered-all_with, offered-with_kind}
+use Rattle.fs_app_place_and_order.proofs.Placements.{slots_of-all_with, slots_of-with_kind}
 use Rattle.fs_app_audit.specs.Audit.{fits_one, with_one, taken_up, all_fit}
 
 module _ (prices : PriceTable) where

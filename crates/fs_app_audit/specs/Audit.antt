@@ -28,7 +28,7 @@ use Rattle.fs_app_io.specs.declared.status.Status.TheVariants as ending
 use Rattle.fs_litmus.specs.Reads.{Reads}
 use Rattle.fs_litmus.specs.Lines.{StandIn}
 use Rattle.fs_litmus.specs.Faults.{IsTestFault}
-use Rattle.fs_app_place_order.specs.Place.{ArePricesOf, IsPricesFault}
+use Rattle.fs_app_place_and_order.specs.Place.{ArePricesOf, IsPricesFault}
 use Rattle.fs_app_test.specs.declared.said.Kind.{Kind}
 use Rattle.fs_app_test.specs.declared.said.Kind.TheVariants as verdict
 use Rattle.fs_app_test.specs.SaidVerdicts.{IsFaultOf, IsForbidden, IsTestedAs}

@@ -5,7 +5,7 @@ ghost use Rattle.std.specs.Arc.{arc_value};
 ghost use Rattle.fs_model.specs.Test.{IsBounded, IsTest};
 ghost use Rattle.fs_model.specs.Witness.{Witness as Shown};
 ghost use Rattle.fs_litmus.specs.Reads.{Reads};
-ghost use Rattle.fs_app_place_order.specs.Place.{ArePricesOf};
+ghost use Rattle.fs_app_place_and_order.specs.Place.{ArePricesOf};
 ghost use Rattle.fs_app_test.specs.SaidVerdicts.{IsTestedAs, witness_in};
 ghost use Rattle.fs_app_audit.specs.Audit.{IsAudited, IsAuditedAnew, audit_text};
 ghost use Rattle.fs_app_audit.specs.Audit.{in_place_text, saved_in_place};

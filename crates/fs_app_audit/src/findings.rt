@@ -18,7 +18,7 @@ ghost use Rattle.fs_board_search.specs.Priced.{question_of};
 ghost use Rattle.fs_litmus.specs.Faults.{IsTestFault};
 ghost use Rattle.fs_litmus.specs.Lines.{StandIn};
 ghost use Rattle.fs_litmus.specs.Reads.{Reads};
-ghost use Rattle.fs_app_place_order.specs.Place.{ArePricesOf};
+ghost use Rattle.fs_app_place_and_order.specs.Place.{ArePricesOf};
 ghost use Rattle.fs_app_test.specs.SaidVerdicts.{IsTestedAs};
 ghost use Rattle.fs_app_audit.specs.Audit.{AreFound, IsAdvised, IsKept, IsFirstFault, asked, bare, fence_there};
 ghost use Rattle.fs_app_audit.specs.Audit.{written_fence, code_fences, written_fences, fits_one, with_one, taken_up};

@@ -10,7 +10,7 @@ ghost use Rattle.fs_model.specs.Slots.{slots};
 ghost use Rattle.fs_model.specs.Test.{IsBounded, IsTest};
 ghost use Rattle.fs_model.specs.Witness.{Witness as Shown};
 ghost use Rattle.fs_litmus.specs.Reads.{Reads};
-ghost use Rattle.fs_app_place_order.specs.Place.{ArePricesOf};
+ghost use Rattle.fs_app_place_and_order.specs.Place.{ArePricesOf};
 ghost use Rattle.fs_app_test.specs.SaidVerdicts.{IsForbidden, IsTestedAs, witness_in};
 ghost use Rattle.fs_app_audit.specs.Audit.{IsFirstWrittenFault, IsRewritten, IsWritten, fenced_text, written_status};
 ghost use Rattle.fs_app_audit.specs.inner.Made.{IsSound, findings_of};

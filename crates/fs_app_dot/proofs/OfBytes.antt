@@ -5,7 +5,7 @@ use Rattle.fs_model.specs.declared.test.Test.{Test}
 use Rattle.fs_model.specs.Witness.{Witness}
 use Rattle.fs_litmus.specs.Reads.{Reads}
 use Rattle.fs_cert_evidence.specs.Shown.{IsShownBy}
-use Rattle.fs_app_why_nearer.specs.Reordered.{IsToldOf}
+use Rattle.fs_app_why.specs.Reordered.{IsToldOf}
 use Rattle.fs_app_dot.specs.declared.picture.Picture.{Picture}
 use Rattle.fs_app_dot.specs.Executions.{AreOfWitness, IsListOf, IsOneOf, execution_name}
 

@@ -1,4 +1,4 @@
--- The arrows of a contradiction: a chain of fs_app_why_kinds, link by link.
+-- The arrows of a contradiction: a chain of fs_app_why, link by link.
 use Rattle.std.specs.Prelude.{ℕ, Option, None, Some, List, [], ◌∷◌, ◌++◌, codes, slice_get}
 use Rattle.std.specs.List.{flat_map}
 use Rattle.fs_instr.specs.declared.instr.Instr.{Instr}
@@ -10,11 +10,11 @@ use Rattle.fs_cert_evidence.specs.declared.evidence.Cause.{Cause}
 use Rattle.fs_cert_evidence.specs.declared.evidence.Cause.TheVariants.{Rule1, Rule2, Rule3, Rule4, Rule5, Rule6, Rule7}
 use Rattle.fs_cert_evidence.specs.declared.evidence.Cause.TheVariants.{Rule8, Rule9, Rule10, Rule11, Rule12, Rule13}
 use Rattle.fs_cert_evidence.specs.declared.evidence.Cause.TheVariants.{ReadsFrom, Coherence, FromReads}
-use Rattle.fs_app_why_kinds.specs.declared.chain.Arrow.{Arrow}
-use Rattle.fs_app_why_kinds.specs.declared.chain.Arrow.TheVariants.{Because, Forgotten, Pair, End}
-use Rattle.fs_app_why_kinds.specs.declared.chain.ChainLink.{ChainLink}
-use Rattle.fs_app_why_kinds.specs.declared.fences.Fence.{Fence}
-use Rattle.fs_app_why_kinds.specs.declared.fences.Fence.TheVariants.{Placed, Written}
+use Rattle.fs_app_why.specs.declared.chain.Arrow.{Arrow}
+use Rattle.fs_app_why.specs.declared.chain.Arrow.TheVariants.{Because, Forgotten, Pair, End}
+use Rattle.fs_app_why.specs.declared.chain.ChainLink.{ChainLink}
+use Rattle.fs_app_why.specs.declared.fences.Fence.{Fence}
+use Rattle.fs_app_why.specs.declared.fences.Fence.TheVariants.{Placed, Written}
 use Rattle.fs_app_dot.specs.declared.graph.Edge.{Edge}
 use Rattle.fs_app_dot.specs.declared.graph.Ink.{Ink}
 use Rattle.fs_app_dot.specs.declared.graph.Ink.TheVariants as ink

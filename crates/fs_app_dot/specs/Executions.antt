@@ -18,8 +18,8 @@ use Rattle.fs_cert_evidence.specs.WitnessFile.{IsWitnessFile}
 use Rattle.fs_app_dot.specs.Pictures.{IsPicture}
 use Rattle.fs_app_why.specs.Traces.{as_list}
 use Rattle.fs_app_why.specs.Why.{NoWitnessShows, asked}
-use Rattle.fs_app_why_kinds.specs.declared.told.Telling.{Telling}
-use Rattle.fs_app_why_nearer.specs.Reordered.{IsFirstShown, IsToldOf}
+use Rattle.fs_app_why.specs.declared.telling.Telling.{Telling}
+use Rattle.fs_app_why.specs.Reordered.{IsFirstShown, IsToldOf}
 use Rattle.fs_app_dot.specs.declared.picture.Picture.{Picture}
 use Rattle.fs_app_dot.specs.Kinds.{AreOf}
 

@@ -4,14 +4,14 @@ use Rattle.std.specs.Prelude.{if◌then◌else◌}
 use Rattle.std.specs.Fmt.{decimal}
 use Rattle.fs_model.specs.declared.test.Test.{Test}
 use Rattle.fs_model.specs.Numbers.{numbers_below}
-use Rattle.fs_app_why_kinds.specs.declared.chain.Chain.{Chain}
-use Rattle.fs_app_why_kinds.specs.declared.chain.Shape.{Shape}
-use Rattle.fs_app_why_kinds.specs.declared.chain.Shape.TheVariants as shape
-use Rattle.fs_app_why_kinds.specs.Kinds.{ChainKind, told_links}
+use Rattle.fs_app_why.specs.declared.chain.Chain.{Chain}
+use Rattle.fs_app_why.specs.declared.chain.Shape.{Shape}
+use Rattle.fs_app_why.specs.declared.chain.Shape.TheVariants as shape
+use Rattle.fs_app_why.specs.Kinds.{ChainKind, told_links}
 use Rattle.fs_app_dot.specs.Pictures.{IsChainPicture}
 use Rattle.fs_app_why.specs.Traces.{as_list}
-use Rattle.fs_app_why_kinds.specs.declared.told.Telling.{Telling}
-use Rattle.fs_app_why_kinds.specs.Told.{is_told, kind_at, told_chain}
+use Rattle.fs_app_why.specs.declared.telling.Telling.{Telling}
+use Rattle.fs_app_why.specs.Told.{is_told, kind_at, told_chain}
 use Rattle.fs_app_dot.specs.declared.picture.Picture.{Picture}
 
 -- ---- pictures of several things

@@ -1,7 +1,7 @@
 -- What a picture is of.
 use Rattle.std.specs.Prelude.{◌≡◌, ℕ, List}
 use Rattle.fs_model.specs.declared.test.Test.{Test}
-use Rattle.fs_app_why_kinds.specs.declared.chain.ChainLink.{ChainLink}
+use Rattle.fs_app_why.specs.declared.chain.ChainLink.{ChainLink}
 use Rattle.fs_app_dot.specs.declared.graph.Edge.{Edge}
 use Rattle.fs_app_dot.specs.declared.graph.Node.{Node}
 use Rattle.fs_app_dot.specs.Chains.{chain_edges}

@@ -10,10 +10,10 @@ use Rattle.fs_litmus.specs.Reads.{Reads}
 use Rattle.fs_cert_evidence.specs.Certificate.{Answer, Certificate, Cycles, Fenced, NoneForbids}
 use Rattle.fs_cert_evidence.specs.CertificateFile.{IsCertificateFile}
 use Rattle.fs_cert_evidence.specs.Valid.{Forbid}
-use Rattle.fs_app_why_kinds.specs.Kinds.{ChainKind}
+use Rattle.fs_app_why.specs.Kinds.{ChainKind}
 use Rattle.fs_app_why.specs.Forbidden.{AreKinds}
 use Rattle.fs_app_why.specs.Why.{lacks_placed}
-use Rattle.fs_app_why_kinds.specs.declared.told.Telling.{Telling}
+use Rattle.fs_app_why.specs.declared.telling.Telling.{Telling}
 use Rattle.fs_app_dot.specs.declared.picture.Picture.{Picture}
 use Rattle.fs_app_dot.specs.Kinds.{AreOfKinds}
 use Rattle.fs_app_dot.specs.Executions.{AreOfFences, AreOfWitness, none_title}

@@ -7,7 +7,7 @@ ghost use Rattle.fs_app_dot.specs.Chains.{written_label};
 ghost use Rattle.fs_app_dot.specs.declared.graph.Ink.TheVariants.{Rule};
 
 use crate::graph::{Edge, Ink};
-use fs_app_why_kinds::{Arrow, ChainLink, Fence};
+use fs_app_why::{Arrow, ChainLink, Fence};
 use fs_cert_evidence::Cause;
 use fs_instr::{Instr, write_instr};
 use fs_kinds::OperationName;

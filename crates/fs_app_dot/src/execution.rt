@@ -5,7 +5,7 @@ ghost use Rattle.std.specs.Prelude.{◌<◌, ◌≤◌};
 
 use crate::chain::{cause_label, fence_label, ink_of, named};
 use crate::graph::{Edge, Ink};
-use fs_app_why_kinds::{Fence, fence_orders};
+use fs_app_why::{Fence, fence_orders};
 use fs_cand_witness::{Rows, operation_name};
 use fs_cert_evidence::Cause;
 use fs_check::OrderedCandidate;

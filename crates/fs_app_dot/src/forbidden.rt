@@ -10,7 +10,7 @@ ghost use Rattle.fs_cert_evidence.specs.CandidateFaults.{IsCandidateFault};
 ghost use Rattle.fs_cert_evidence.specs.Certificate.{Inferred};
 ghost use Rattle.fs_cert_evidence.specs.Inferences.{cycles_of, inference_of};
 ghost use Rattle.fs_cert_evidence.specs.Valid.{Forbid};
-ghost use Rattle.fs_app_why_kinds.specs.Kinds.{ChainKind as Kinds};
+ghost use Rattle.fs_app_why.specs.Kinds.{ChainKind as Kinds};
 ghost use Rattle.fs_app_why.specs.Forbidden.{AreKinds};
 ghost use Rattle.fs_app_why.specs.Why.{HasCandidateFault};
 ghost use Rattle.fs_app_dot.specs.Kinds.{AreOfKinds};
@@ -18,8 +18,7 @@ ghost use Rattle.fs_app_dot.specs.Told.{AreForbiddenPictures, AreOfRefutation, A
 
 use crate::kinds::kind_pictures;
 use crate::picture::{Page, Picture};
-use fs_app_why::{inferred_kinds, lines_of, no_fences, verdict_on};
-use fs_app_why_kinds::Telling;
+use fs_app_why::{Telling, inferred_kinds, lines_of, no_fences, verdict_on};
 use fs_cert_evidence::{Cycles, Inference};
 use fs_judge::Verdict;
 use fs_kinds::{Fault, Placement};
@@ -106,7 +105,7 @@ fn judged_pictures(
 /// of fs_app_why tells its chain, by the name `cycle-1`, `stale-1` or `not-atomic-1` with the kind's number there. None
 /// where an execution shows the outcome, or a list of candidates that none does. The test is judged once more. The
 /// faults are those of `read_test`, of `Problem::new` and of `Problem::judged`. The cost is that of these three, of
-/// `chains` and `kinds_of` of fs_app_why_kinds, and of `chain_picture` for each kind.
+/// `chains` and `kinds_of` of fs_app_why, and of `chain_picture` for each kind.
 pub fn forbidden_pictures(
     alloc: Global,
     title: &str,

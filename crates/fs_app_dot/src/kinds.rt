@@ -4,12 +4,12 @@ ghost use Rattle.std.specs.Prelude.{◌≡◌, ◌<◌, length, option_copied, I
 ghost use Rattle.fs_app_dot.specs.Kinds.{AreOfKinds, IsDrawn, IsOfNumber, chain_name, chain_title};
 ghost use Rattle.fs_app_dot.specs.Kinds.{shape_name, shape_text, told_there};
 ghost use Rattle.fs_app_dot.specs.Pictures.{IsChainPicture};
-ghost use Rattle.fs_app_why_kinds.specs.Told.{told_chain};
-ghost use Rattle.fs_app_why_kinds.specs.Kinds.{told_links};
+ghost use Rattle.fs_app_why.specs.Told.{told_chain};
+ghost use Rattle.fs_app_why.specs.Kinds.{told_links};
 
 use crate::picture::{Page, Picture, push_found};
 use crate::pictures::chain_picture;
-use fs_app_why_kinds::{Chain, ChainKind, Shape, Telling, is_told, told_links, told_place};
+use fs_app_why::{Chain, ChainKind, Shape, Telling, is_told, told_links, told_place};
 use std::alloc::{AllocError, Global};
 
 fn shape_text(shape: Shape) -> &'static str

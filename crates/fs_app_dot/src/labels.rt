@@ -1,7 +1,7 @@
 //! What a box says of its operation.
 
 use crate::nodes::line_of;
-use fs_app_why_kinds::Known;
+use fs_app_why::Known;
 use fs_instr::{Instr, write_instr};
 use fs_kinds::{List, OperationName};
 use fs_model::Location;

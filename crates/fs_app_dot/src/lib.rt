@@ -20,7 +20,7 @@ mod without;
 
 pub use certified::certified_pictures;
 pub use forbidden::forbidden_pictures;
-pub use fs_app_why_kinds::Telling;
+pub use fs_app_why::Telling;
 pub use order::order_pictures;
 pub use picture::Picture;
 pub use possible::allowed_pictures;

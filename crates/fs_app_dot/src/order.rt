@@ -6,7 +6,7 @@ ghost use Rattle.fs_model.specs.Test.{IsTest};
 ghost use Rattle.fs_model.specs.Witness.{Witness};
 ghost use Rattle.fs_cert_evidence.specs.Shown.{IsShownBy, ShowsAs};
 ghost use Rattle.fs_cert_evidence.specs.WitnessFile.{KeepsWitness};
-ghost use Rattle.fs_app_place_order.specs.Order.{IsFirstOrderFault};
+ghost use Rattle.fs_app_place_and_order.specs.Order.{IsFirstOrderFault};
 ghost use Rattle.fs_app_dot.specs.Executions.{AreOfOrder, IsListOf, IsOneOf, execution_name, execution_title};
 
 use crate::executions::{drawn, execution_title};
@@ -65,7 +65,7 @@ fn given_pictures(
 }
 
 /// The picture of a yes of `order`, of the same files and words, by the name `execution`: of the execution that the
-/// witness gives. None where the verdict is a no. The faults are those of `run_order` of fs_app_place_order. The cost
+/// witness gives. None where the verdict is a no. The faults are those of `run_order` of fs_app_place_and_order. The cost
 /// is that of `check_order` of fs_check and of `execution_picture`.
 pub fn order_pictures(
     alloc: Global,

@@ -11,7 +11,7 @@ use crate::execution::execution_edges;
 use crate::graph::Node;
 use crate::labels::{write_does, write_head};
 use crate::nodes::{Shown, nodes};
-use fs_app_why_kinds::{ChainLink, Known};
+use fs_app_why::{ChainLink, Known};
 use fs_cand_witness::operation_name;
 use fs_check::OrderedCandidate;
 use fs_kinds::{List, Placement};

@@ -9,14 +9,13 @@ ghost use Rattle.fs_cert_evidence.specs.Shown.{IsShownBy};
 ghost use Rattle.fs_cert_evidence.specs.WitnessFile.{KeepsWitness};
 ghost use Rattle.fs_litmus.specs.Faults.{IsTestFault};
 ghost use Rattle.fs_report.specs.Given.{given};
-ghost use Rattle.fs_app_why_nearer.specs.Reordered.{IsToldOf};
+ghost use Rattle.fs_app_why.specs.Reordered.{IsToldOf};
 ghost use Rattle.fs_app_dot.specs.Executions.{AreOfWitness, IsOneOf, allowed_title, execution_name, none_title};
 ghost use Rattle.fs_app_dot.specs.Executions.{IsListOf};
 
 use crate::executions::{drawn, execution_title};
 use crate::picture::{Page, Picture, listed};
-use fs_app_why::{lines_of, no_fences};
-use fs_app_why_nearer::{file_of, nearer};
+use fs_app_why::{file_of, lines_of, nearer, no_fences};
 use fs_cert_evidence::{Choices, WitnessFile};
 use fs_kinds::{Fault, OperationName, Placement};
 use fs_litmus::{Test, read_test, slots};

@@ -13,8 +13,7 @@ ghost use Rattle.fs_app_dot.specs.Executions.{AreOfFences, IsOfEntry, IsWithout,
 
 use crate::executions::drawn;
 use crate::picture::{Page, Picture, push_found};
-use fs_app_why_kinds::Telling;
-use fs_app_why_nearer::first_without;
+use fs_app_why::{Telling, first_without};
 use fs_cert_evidence::WitnessFile;
 use fs_check::OrderedCandidate;
 use fs_kinds::{Entry, Fault, Kind, Placement, Slot};

@@ -16,8 +16,8 @@ use Rattle.fs_app_io.specs.declared.status.Status.{Status}
 use Rattle.fs_app_guarantees.specs.Checked.{IsYesTo}
 use Rattle.fs_app_guarantees.proofs.SameCertificates.{same_certificates}
 use Rattle.fs_app_guarantees.proofs.SamePrices.{agree, same_costs}
-use Rattle.fs_app_solve.specs.Solve.{IsCertified, IsWitnessed, PrintsPlaced}
-use Rattle.fs_app_check.specs.Check.{IsChecked, yes_line}
+use Rattle.fs_app_solve_and_check.specs.Solve.{IsCertified, IsWitnessed, PrintsPlaced}
+use Rattle.fs_app_solve_and_check.specs.Check.{IsChecked, yes_line}
 
 pub accepted : (test prices text certificate verdict : List ℕ) (status end : Status) → IsCertified test prices text status certificate
     → IsChecked test prices certificate verdict end → IsYesTo text verdict end

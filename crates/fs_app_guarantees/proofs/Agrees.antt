@@ -25,13 +25,13 @@ use Rattle.fs_app_io.specs.declared.status.Status.{Status}
 use Rattle.fs_app_io.specs.declared.status.Status.TheVariants.{Success, Denied}
 use Rattle.fs_model_laws.proofs.FencedSame.{allows_as_read}
 use Rattle.fs_model_laws.proofs.Filled.{filled-shows}
-use Rattle.fs_app_place_order.proofs.Placements.{slots_of-IsPlaced}
+use Rattle.fs_app_place_and_order.proofs.Placements.{slots_of-IsPlaced}
 use Rattle.fs_app_guarantees.proofs.KeptPlacements.{allows_same}
 use Rattle.fs_app_guarantees.specs.Headline.{IsPossible, CheapestRulesOut, NothingRulesOut}
-use Rattle.fs_app_solve.specs.Solve.{IsSolved}
+use Rattle.fs_app_solve_and_check.specs.Solve.{IsSolved}
 use Rattle.fs_app_guarantees.proofs.Meaning.{holds, same_itself}
 use Rattle.fs_app_guarantees.specs.Agreement.{SaysYes, Place, SaysNoToAnswer, SaysYesToWitness, HaveOnePlacement, OrderAgrees}
-use Rattle.fs_app_place_order.specs.Order.{verdict_status}
+use Rattle.fs_app_place_and_order.specs.Order.{verdict_status}
 use Rattle.fs_app_guarantees.proofs.Placing.{one_placement, words_place}
 use Rattle.fs_app_guarantees.proofs.Witnesses.{witness_file}
 use Rattle.fs_app_guarantees.proofs.WitnessTexts.{line_says}

@@ -25,12 +25,12 @@ use Rattle.fs_check_certificate.proofs.OneFile.{file_once}
 use Rattle.fs_cert.specs.Cycles.{version_for}
 use Rattle.fs_app_io.specs.declared.status.Status.{Status}
 use Rattle.fs_app_io.specs.declared.status.Status.TheVariants.{Denied, Success}
-use Rattle.fs_app_check.specs.Check.{IsChecked, yes_line}
-use Rattle.fs_app_solve.specs.Solve.{IsCertified, PrintsPlaced}
-use Rattle.fs_app_why_kinds.specs.Kinds.{ChainKind}
+use Rattle.fs_app_solve_and_check.specs.Check.{IsChecked, yes_line}
+use Rattle.fs_app_solve_and_check.specs.Solve.{IsCertified, PrintsPlaced}
+use Rattle.fs_app_why.specs.Kinds.{ChainKind}
 use Rattle.fs_app_why.specs.Forbidden.{cycles_text}
-use Rattle.fs_app_why_kinds.specs.declared.told.Telling.{Telling}
-use Rattle.fs_app_why_kinds.specs.declared.told.Telling.TheVariants.{Few, All, One}
+use Rattle.fs_app_why.specs.declared.telling.Telling.{Telling}
+use Rattle.fs_app_why.specs.declared.telling.Telling.TheVariants.{Few, All, One}
 use Rattle.fs_app_why.specs.Why.{IsCertifiedWhy, NoWitnessShows, TellsAllFences, TellsAnswer, TellsFences, TellsPlaced, TellsUnless, TellsWithout, asked, is_passed, lacks_placed, unplaced_text}
 use Rattle.fs_app_guarantees.specs.FencesTold.{AsksForAll, EachIsTold, FencesAreTold}
 use Rattle.fs_app_guarantees.proofs.Agrees.{places, slots_alike}

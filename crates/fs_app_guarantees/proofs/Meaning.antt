@@ -19,10 +19,10 @@ use Rattle.fs_model.specs.Allows.{Allows, IsPlacement, is_better}
 use Rattle.fs_model_laws.proofs.FencedSame.{allows_as_read}
 use Rattle.fs_model_laws.proofs.Filled.{filled-shows}
 use Rattle.fs_app_io.specs.declared.status.Status.{Status}
-use Rattle.fs_app_place_order.specs.Place.{ArePricesOf}
+use Rattle.fs_app_place_and_order.specs.Place.{ArePricesOf}
 use Rattle.fs_app_guarantees.specs.Headline.{IsFencedTest, StaysPossible, IsRuledOut, CheapestRulesOut, NothingRulesOut, IsTrueAnswer, IsTrueOfFiles}
 use Rattle.fs_app_guarantees.proofs.SamePrices.{Agree, agree, same_placement, same_costs}
-use Rattle.fs_app_solve.specs.Solve.{PrintsCheapest, PrintsNone, IsSolved}
+use Rattle.fs_app_solve_and_check.specs.Solve.{PrintsCheapest, PrintsNone, IsSolved}
 
 pub same_itself : (t : Test) → IsSame t t
 same_itself t = record { name = refl; codes = refl; starts = refl; locations = refl; quantifier = refl; condition = refl }

@@ -17,7 +17,7 @@ use Rattle.fs_check.proofs.OneVerdict.{no_reason_and_yes, one_reason}
 use Rattle.fs_app_io.specs.declared.status.Status.{Status}
 use Rattle.fs_app_guarantees.proofs.KeptReasons.{yes_same, reason_same}
 use Rattle.fs_app_guarantees.specs.Agreement.{Place}
-use Rattle.fs_app_place_order.specs.Order.{IsOrderAnswer, verdict_line, verdict_status}
+use Rattle.fs_app_place_and_order.specs.Order.{IsOrderAnswer, verdict_line, verdict_status}
 use Rattle.fs_app_guarantees.proofs.Agrees.{slots_alike}
 use Rattle.fs_app_guarantees.proofs.Placing.{one_placement}
 

@@ -10,9 +10,9 @@ use Rattle.fs_model.specs.Execution.{pre_execution}
 use Rattle.fs_model.specs.Shows.{holds, is_outcome, final_register, final_word}
 use Rattle.fs_litmus.specs.Reads.{Reads}
 use Rattle.fs_litmus.proofs.ReadsTest.{is_test}
-use Rattle.fs_judge_final_states.specs.declared.place.Place.{Place}
-use Rattle.fs_judge_final_states.specs.declared.place.Place.TheVariants.{Register, Location}
-use Rattle.fs_judge_final_states.specs.States.{AreStates, IsState, state_of, word_of}
+use Rattle.fs_judge_outcomes.specs.declared.place.Place.{Place}
+use Rattle.fs_judge_outcomes.specs.declared.place.Place.TheVariants.{Register, Location}
+use Rattle.fs_judge_outcomes.specs.States.{AreStates, IsState, state_of, word_of}
 use Rattle.fs_app_guarantees.specs.Headline.{IsRuledOut, StaysPossible}
 use Rattle.fs_app_guarantees.specs.States.{NamesOnly, SomeMakesOutcome}
 use Rattle.fs_app_guarantees.proofs.Meaning.{ruled_out, stays}

@@ -22,7 +22,7 @@ use Rattle.fs_model_laws.proofs.FencedExecutions.{none_at}
 use Rattle.fs_litmus.specs.Reads.{Reads}
 use Rattle.fs_litmus.proofs.ReadsOnce.{reads_once}
 use Rattle.fs_litmus.proofs.ReadsTest.{is_test}
-use Rattle.fs_app_place_order.specs.Place.{ArePriced, IsFencedText, cost_line}
+use Rattle.fs_app_place_and_order.specs.Place.{ArePriced, IsFencedText, cost_line}
 use Rattle.fs_litmus.proofs.Fencing.{read_back}
 use Rattle.fs_app_guarantees.specs.Print.{OfPrint}
 use Rattle.fs_app_guarantees.proofs.InPrint.{of_tests, of_same, of_same_back, printed_reads}

@@ -18,13 +18,13 @@ use Rattle.fs_cert_evidence.specs.CertificateFile.{IsCertificateFile, version_nu
 use Rattle.fs_app_io.specs.declared.status.Status.{Status}
 use Rattle.fs_app_io.specs.declared.status.Status.TheVariants.{Success}
 use Rattle.fs_app_io.specs.Status.{code}
-use Rattle.fs_app_place_order.specs.Place.{IsFencedText}
+use Rattle.fs_app_place_and_order.specs.Place.{IsFencedText}
 use Rattle.fs_app_test.specs.declared.said.Kind.{Kind}
-use Rattle.fs_app_solve.specs.Solve.{IsSolved}
+use Rattle.fs_app_solve_and_check.specs.Solve.{IsSolved}
 use Rattle.fs_app_test.specs.Report.{kind_text}
 use Rattle.fs_app_test.specs.Verdicts.{IsTested}
 use Rattle.fs_app_states.specs.Shown.{IsStatesText}
-use Rattle.fs_app_check.specs.Check.{IsChecked}
+use Rattle.fs_app_solve_and_check.specs.Check.{IsChecked}
 use Rattle.fs_app_guarantees.specs.Meanings.{HavePrices, Solves, Accepts, Says, ListsStates, SolveIsTrue, StatesAreTrue, TestIsTrue, YesIsTrue}
 use Rattle.fs_app_guarantees.proofs.Agrees.{slots_alike}
 use Rattle.fs_app_guarantees.proofs.InPrint.{of_read, same_program}

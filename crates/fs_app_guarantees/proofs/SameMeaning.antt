@@ -17,7 +17,7 @@ use Rattle.fs_model_laws.proofs.FencedPrograms.{cheapest_alike, fenced_alike, te
 use Rattle.fs_model_laws.proofs.Ranking.{by_cost_and_order}
 use Rattle.fs_cert_evidence.specs.Certificate.{Version, First, Second, Fourth}
 use Rattle.fs_cert_evidence.specs.CertificateFile.{version_number}
-use Rattle.fs_app_check.specs.Check.{yes_line}
+use Rattle.fs_app_solve_and_check.specs.Check.{yes_line}
 use Rattle.fs_app_io.specs.declared.status.Status.{Status}
 use Rattle.fs_app_io.specs.declared.status.Status.TheVariants.{Success, Denied, Failure, OutOfMemory, Vacuous}
 use Rattle.fs_app_io.specs.Status.{code}

@@ -14,7 +14,7 @@ use Rattle.fs_model.specs.Slots.{slots}
 use Rattle.fs_model.specs.Test.{IsBounded}
 use Rattle.fs_model.specs.Allows.{IsPlacement}
 use Rattle.fs_check_certificate.proofs.Words.{small_slots}
-use Rattle.fs_app_place_order.specs.Place.{ArePricesOf}
+use Rattle.fs_app_place_and_order.specs.Place.{ArePricesOf}
 
 -- the same price for each kind, and the same weight for each slot
 pub record Agree (table other : PriceTable) : Type 0 where

@@ -16,7 +16,7 @@ use Rattle.fs_app_io.specs.declared.status.Status.TheVariants.{Success, Denied}
 use Rattle.fs_app_guarantees.specs.Lines.{IsOneAnswer}
 use Rattle.fs_app_guarantees.proofs.Meaning.{cheapest_of_same, none_of_same}
 use Rattle.fs_app_guarantees.proofs.SamePrices.{Agree, agree, same_placement, same_costs}
-use Rattle.fs_app_solve.specs.Solve.{PrintsCheapest, PrintsNone, IsSolved}
+use Rattle.fs_app_solve_and_check.specs.Solve.{PrintsCheapest, PrintsNone, IsSolved}
 
 module _ (t : Test) (table other : PriceTable) (same : Agree table other) (h : IsBounded t) where
   -- the cheapest by one table is so by another one with the same prices

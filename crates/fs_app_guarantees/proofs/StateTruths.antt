@@ -34,10 +34,10 @@ use Rattle.fs_model_laws.proofs.FencedOutcome.{registers_same}
 use Rattle.fs_model_laws.proofs.NoPlacement as no_placement
 use Rattle.fs_app_error_messages.specs.Messages.{name_text, most_name}
 use Rattle.fs_app_error_messages.specs.Places.{shown_byte, shown, goes_on}
-use Rattle.fs_judge_final_states.specs.declared.place.Place.{Place}
-use Rattle.fs_judge_final_states.specs.declared.place.Place.TheVariants.{Register, Location}
-use Rattle.fs_judge_final_states.specs.declared.state.State.{State}
-use Rattle.fs_judge_final_states.specs.States.{AreStates, word_at, word_of, words_of}
+use Rattle.fs_judge_outcomes.specs.declared.place.Place.{Place}
+use Rattle.fs_judge_outcomes.specs.declared.place.Place.TheVariants.{Register, Location}
+use Rattle.fs_judge_outcomes.specs.declared.state.State.{State}
+use Rattle.fs_judge_outcomes.specs.States.{AreStates, word_at, word_of, words_of}
 use Rattle.fs_litmus_tokens.specs.Numbers.{number_of}
 use Rattle.fs_litmus_tokens.specs.Tokens.{Lined, Tok, Word, Sign}
 use Rattle.fs_litmus_tokens.specs.declared.token.Mark.TheVariants.{Colon}

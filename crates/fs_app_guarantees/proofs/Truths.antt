@@ -22,13 +22,13 @@ use Rattle.fs_check_certificate.proofs.OneFile.{file_once}
 use Rattle.fs_app_io.specs.declared.status.Status.{Status}
 use Rattle.fs_app_io.specs.declared.status.Status.TheVariants.{Success, Denied}
 use Rattle.fs_app_io.specs.Status.{code}
-use Rattle.fs_app_place_order.specs.Place.{ArePricesOf}
+use Rattle.fs_app_place_and_order.specs.Place.{ArePricesOf}
 use Rattle.fs_app_test.specs.declared.said.Kind.{Kind}
 use Rattle.fs_app_test.specs.declared.said.Kind.TheVariants as kind
 use Rattle.fs_app_test.specs.SaidVerdicts as said
-use Rattle.fs_app_solve.specs.Solve.{IsSolved}
+use Rattle.fs_app_solve_and_check.specs.Solve.{IsSolved}
 use Rattle.fs_app_test.specs.Report.{kind_text}
-use Rattle.fs_app_check.specs.Check.{IsChecked}
+use Rattle.fs_app_solve_and_check.specs.Check.{IsChecked}
 use Rattle.fs_app_guarantees.specs.Meanings.{HavePrices, Solves, cheapest, nothing, IsLeast, Accepts, solved, least, Says, allowed, forbidden, vacuous}
 use Rattle.fs_app_guarantees.proofs.FullFences.{shows}
 use Rattle.fs_app_guarantees.proofs.SamePrices.{Agree, agree, same_placement, same_costs}

@@ -22,13 +22,13 @@ use Rattle.fs_cert_evidence.specs.Texts.{fenced_lines, none_lines}
 use Rattle.fs_check_certificate.proofs.OneFile.{file_once}
 use Rattle.fs_model_laws.proofs.Filled.{filled-shows}
 use Rattle.fs_app_io.specs.declared.status.Status.TheVariants.{Success, Denied}
-use Rattle.fs_app_place_order.specs.Place.{ArePricesOf}
+use Rattle.fs_app_place_and_order.specs.Place.{ArePricesOf}
 use Rattle.fs_app_guarantees.specs.Checked.{LeastRulesOut, IsBestAnswer, IsTrueAnswerBelow, IsTrueYes}
 use Rattle.fs_app_guarantees.specs.Headline.{CheapestRulesOut, NothingRulesOut}
 use Rattle.fs_app_guarantees.proofs.Meaning.{cheapest, ruled_out, stays}
 use Rattle.fs_app_guarantees.proofs.SamePrices.{Agree, agree, same_placement, same_costs}
 use Rattle.fs_app_guarantees.proofs.Witnesses.{given_file}
-use Rattle.fs_app_check.specs.Check.{IsChecked}
+use Rattle.fs_app_solve_and_check.specs.Check.{IsChecked}
 
 not_denied : Success ≡ Denied → ⊥
 not_denied e = cc

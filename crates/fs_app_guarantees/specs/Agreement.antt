@@ -11,8 +11,8 @@ use Rattle.fs_model.specs.Allows.{IsPlacement, is_better}
 use Rattle.fs_cert_evidence.specs.Certificate.{fence_words}
 use Rattle.fs_cert_evidence.specs.Texts.{line, fenced_lines}
 use Rattle.fs_app_io.specs.declared.status.Status.TheVariants.{Success}
-use Rattle.fs_app_place_order.specs.Place.{ArePricesOf}
-use Rattle.fs_app_place_order.specs.Order.{IsOrderAnswer}
+use Rattle.fs_app_place_and_order.specs.Place.{ArePricesOf}
+use Rattle.fs_app_place_and_order.specs.Order.{IsOrderAnswer}
 
 -- `order` says yes to the witness file, with these words as fences
 abbrev pub SaysYes : (test witness : List ℕ) → (words : List (List ℕ)) → Type 0

@@ -11,8 +11,8 @@ use Rattle.fs_cert_evidence.specs.Texts.{fenced_lines}
 use Rattle.fs_app_io.specs.declared.status.Status.{Status}
 use Rattle.fs_app_io.specs.declared.status.Status.TheVariants.{Success}
 use Rattle.fs_cert_evidence.specs.CandidateFaults.{HasNoCyclesFault}
-use Rattle.fs_app_place_order.specs.Place.{ArePricesOf}
-use Rattle.fs_app_check.specs.Check.{yes_line}
+use Rattle.fs_app_place_and_order.specs.Place.{ArePricesOf}
+use Rattle.fs_app_solve_and_check.specs.Check.{yes_line}
 use Rattle.fs_app_guarantees.specs.Headline.{AreRead, StaysPossible, IsRuledOut, CheapestRulesOut, NothingRulesOut}
 
 -- a placement and its cost are printed; it rules the outcome out, and none that costs less does

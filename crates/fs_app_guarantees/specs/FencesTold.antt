@@ -6,9 +6,9 @@ use Rattle.fs_model.specs.Witness.{Witness}
 use Rattle.fs_litmus.specs.Lines.{StandIn}
 use Rattle.fs_litmus.specs.Reads.{Reads}
 use Rattle.fs_cert_evidence.specs.Texts.{fenced_lines, none_lines}
-use Rattle.fs_app_why_kinds.specs.Kinds.{ChainKind}
-use Rattle.fs_app_why_kinds.specs.declared.told.Telling.{Telling}
-use Rattle.fs_app_why_kinds.specs.declared.told.Telling.TheVariants.{Few, All, One}
+use Rattle.fs_app_why.specs.Kinds.{ChainKind}
+use Rattle.fs_app_why.specs.declared.telling.Telling.{Telling}
+use Rattle.fs_app_why.specs.declared.telling.Telling.TheVariants.{Few, All, One}
 use Rattle.fs_app_why.specs.Why.{TellsFences}
 
 -- it isn't one fence that is asked for

@@ -16,7 +16,7 @@ use Rattle.fs_cert_evidence.specs.WitnessFile.{IsWitnessFile}
 use Rattle.fs_cert_evidence.specs.Sizes.{HasNoRunFault}
 use Rattle.fs_app_io.specs.declared.status.Status.{Status}
 use Rattle.fs_app_io.specs.declared.status.Status.TheVariants.{Success, Denied}
-use Rattle.fs_app_place_order.specs.Place.{ArePricesOf}
+use Rattle.fs_app_place_and_order.specs.Place.{ArePricesOf}
 
 -- u has the fences of p as instructions: it is the fenced test, or is read from its printed form
 abbrev pub IsFencedTest : Test → List Entry → Test → Type 0

@@ -24,9 +24,9 @@ use Rattle.fs_model.specs.Printed.{name_of}
 use Rattle.fs_model.specs.Witness as witness
 use Rattle.fs_model.specs.Witness.{Witness}
 use Rattle.fs_cert_evidence.specs.Texts.{fenced_lines, none_lines}
-use Rattle.fs_judge_final_states.specs.declared.place.Place.{Place}
-use Rattle.fs_judge_final_states.specs.declared.place.Place.TheVariants.{Register, Location}
-use Rattle.fs_judge_final_states.specs.States.{word_of}
+use Rattle.fs_judge_outcomes.specs.declared.place.Place.{Place}
+use Rattle.fs_judge_outcomes.specs.declared.place.Place.TheVariants.{Register, Location}
+use Rattle.fs_judge_outcomes.specs.States.{word_of}
 use Rattle.fs_app_states.specs.declared.columns.Column.{Column}
 use Rattle.fs_app_states.specs.Names.{state_line}
 use Rattle.fs_app_guarantees.specs.Print.{OfPrint}

@@ -4,9 +4,9 @@ use Rattle.std.specs.List.{Contains}
 use Rattle.fs_model.specs.declared.test.Test.{Test}
 use Rattle.fs_model.specs.Condition.{Condition, condition_of, Always, Never, RegisterIs, LocationIs, Deny, Both, Either}
 use Rattle.fs_model.specs.Shows.{holds, is_outcome}
-use Rattle.fs_judge_final_states.specs.declared.place.Place.{Place}
-use Rattle.fs_judge_final_states.specs.declared.place.Place.TheVariants.{Register, Location}
-use Rattle.fs_judge_final_states.specs.States.{word_of}
+use Rattle.fs_judge_outcomes.specs.declared.place.Place.{Place}
+use Rattle.fs_judge_outcomes.specs.declared.place.Place.TheVariants.{Register, Location}
+use Rattle.fs_judge_outcomes.specs.States.{word_of}
 
 -- each place that the condition names is one of these
 abbrev pub NamesOnly : List Place → Condition → Type 0

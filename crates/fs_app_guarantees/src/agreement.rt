@@ -4,8 +4,8 @@ ghost use Rattle.std.specs.Prelude.{◌≡◌, ℕ, List};
 ghost use Rattle.fs_model.specs.declared.test.Test.{Test};
 ghost use Rattle.fs_litmus.specs.Reads.{Reads};
 ghost use Rattle.fs_app_io.specs.declared.status.Status.{Status};
-ghost use Rattle.fs_app_solve.specs.Solve.{IsSolved};
-ghost use Rattle.fs_app_place_order.specs.Order.{IsOrderAnswer};
+ghost use Rattle.fs_app_solve_and_check.specs.Solve.{IsSolved};
+ghost use Rattle.fs_app_place_and_order.specs.Order.{IsOrderAnswer};
 ghost use Rattle.fs_app_guarantees.specs.Agreement.{OrderAgrees, HaveOnePlacement};
 
 /// A law: `order` agrees with `solve`. Where `solve` prints `none` and a witness, `order` says yes to that witness as a

@@ -3,8 +3,8 @@
 ghost use Rattle.std.specs.Prelude.{ℕ, List};
 ghost use Rattle.fs_app_io.specs.declared.status.Status.{Status};
 ghost use Rattle.fs_app_io.specs.declared.status.Status.TheVariants.{Success};
-ghost use Rattle.fs_app_solve.specs.Solve.{IsCertified};
-ghost use Rattle.fs_app_check.specs.Check.{IsChecked};
+ghost use Rattle.fs_app_solve_and_check.specs.Solve.{IsCertified};
+ghost use Rattle.fs_app_solve_and_check.specs.Check.{IsChecked};
 ghost use Rattle.fs_app_guarantees.specs.Checked.{IsTrueYes, IsYesTo};
 
 /// A law, the promise of `check`. Where it says `yes`, the bytes read as a test, as prices and as a certificate, and

@@ -5,11 +5,11 @@ ghost use Rattle.fs_cert_evidence.specs.Certificate.{Certificate, First};
 ghost use Rattle.fs_cert_evidence.specs.CertificateFile.{IsCertificateFile};
 ghost use Rattle.fs_app_io.specs.declared.status.Status.{Status};
 ghost use Rattle.fs_app_io.specs.declared.status.Status.TheVariants.{Success};
-ghost use Rattle.fs_app_check.specs.Check.{IsChecked, yes_line};
-ghost use Rattle.fs_app_solve.specs.Solve.{IsCertified};
+ghost use Rattle.fs_app_solve_and_check.specs.Check.{IsChecked, yes_line};
+ghost use Rattle.fs_app_solve_and_check.specs.Solve.{IsCertified};
 ghost use Rattle.fs_app_why.specs.Why.{IsCertifiedWhy};
 ghost use Rattle.fs_app_guarantees.specs.FencesTold.{AsksForAll, FencesAreTold};
-ghost use Rattle.fs_app_why_kinds.specs.declared.told.Telling.{Telling};
+ghost use Rattle.fs_app_why.specs.declared.telling.Telling.{Telling};
 
 /// A law: what `solve --why` tells below fences ends with each of them and an execution without it, and so does what
 /// `check --why` tells below a yes, whoever made the certificate, where not one fence alone is asked for. A certificate of the first version, which leaves ties

@@ -5,7 +5,7 @@ ghost use Rattle.std.specs.Prelude.{ℕ, List};
 ghost use Rattle.fs_model.specs.declared.test.Test.{Test};
 ghost use Rattle.fs_litmus.specs.Reads.{Reads};
 ghost use Rattle.fs_app_io.specs.declared.status.Status.{Status};
-ghost use Rattle.fs_app_solve.specs.Solve.{IsSolved};
+ghost use Rattle.fs_app_solve_and_check.specs.Solve.{IsSolved};
 ghost use Rattle.fs_app_guarantees.specs.Lines.{IsOneAnswer, SayOneAnswer};
 
 /// A law: of a test that is read, the lines `fenced ..` and `fence ..` say one placement over its slots, those of
@@ -17,7 +17,7 @@ pub fn lines_say_one_answer()
 
 /// A law: two runs of `solve` over the bytes of the same test and prices that answer, be it with different numbers of
 /// workers or of nodes, end with the same status, and where that is success they print the same lines, byte for byte.
-/// Where they say `none`, their executions may differ. The contracts of `Found` of fs_app_solve say that what
+/// Where they say `none`, their executions may differ. The contracts of `Found` of fs_app_solve_and_check say that what
 /// they print is an answer for every number of workers.
 pub fn solve_answers_once()
     ensures { (test prices text other : List ℕ) (status end : Status) → IsSolved test prices text status

@@ -18,13 +18,13 @@ ghost use Rattle.fs_cert_evidence.specs.CertificateFile.{IsCertificateFile, vers
 ghost use Rattle.fs_app_io.specs.declared.status.Status.{Status};
 ghost use Rattle.fs_app_io.specs.declared.status.Status.TheVariants.{Denied, Success};
 ghost use Rattle.fs_app_io.specs.Status.{code};
-ghost use Rattle.fs_app_place_order.specs.Place.{IsFencedText};
+ghost use Rattle.fs_app_place_and_order.specs.Place.{IsFencedText};
 ghost use Rattle.fs_app_test.specs.declared.said.Kind.{Kind};
-ghost use Rattle.fs_app_solve.specs.Solve.{IsSolved};
+ghost use Rattle.fs_app_solve_and_check.specs.Solve.{IsSolved};
 ghost use Rattle.fs_app_test.specs.Report.{kind_text};
 ghost use Rattle.fs_app_test.specs.Verdicts.{IsTested};
 ghost use Rattle.fs_app_states.specs.Shown.{IsStatesText};
-ghost use Rattle.fs_app_check.specs.Check.{IsChecked, yes_line};
+ghost use Rattle.fs_app_solve_and_check.specs.Check.{IsChecked, yes_line};
 ghost use Rattle.fs_app_guarantees.specs.Checked.{IsBestAnswer};
 ghost use Rattle.fs_app_guarantees.specs.Headline.{CheapestRulesOut, NothingRulesOut};
 ghost use Rattle.fs_app_guarantees.specs.Meanings.{Accepts, ShowsOutcome, SolveIsTrue, Solves, StatesAreTrue};

@@ -3,7 +3,7 @@
 ghost use Rattle.std.specs.Prelude.{ℕ, List};
 ghost use Rattle.fs_app_io.specs.declared.status.Status.{Status};
 ghost use Rattle.fs_app_guarantees.specs.Headline.{IsTrueOfFiles};
-ghost use Rattle.fs_app_solve.specs.Solve.{IsSolved};
+ghost use Rattle.fs_app_solve_and_check.specs.Solve.{IsSolved};
 
 /// A law, the promise of `solve`. Where it answers, the bytes read as a test and as prices, and what it prints is true
 /// of whatever test and prices they read as. Where it ends with success, it gives a placement: no execution of the

@@ -6,8 +6,8 @@ ghost use Rattle.fs_model.specs.declared.test.Test.{Test};
 ghost use Rattle.fs_model.specs.Allows.{Allows};
 ghost use Rattle.fs_model.specs.Condition.{condition_of};
 ghost use Rattle.fs_litmus.specs.Reads.{Reads};
-ghost use Rattle.fs_judge_final_states.specs.declared.place.Place.{Place};
-ghost use Rattle.fs_judge_final_states.specs.States.{AreStates};
+ghost use Rattle.fs_judge_outcomes.specs.declared.place.Place.{Place};
+ghost use Rattle.fs_judge_outcomes.specs.States.{AreStates};
 ghost use Rattle.fs_app_guarantees.specs.Headline.{IsRuledOut, StaysPossible};
 ghost use Rattle.fs_app_guarantees.specs.States.{NamesOnly, SomeMakesOutcome};
 

@@ -12,9 +12,9 @@ use Rattle.fs_instr.specs.declared.names.AmoOp.{AmoOp}
 use Rattle.fs_instr.specs.declared.names.AmoOp.TheVariants as amo
 use Rattle.fs_model.specs.Instructions as words
 use Rattle.fs_model.specs.Instructions.{flag}
-use Rattle.fs_model_wider_forms.specs.Instructions64.{extended, doubleword_of, add, is_less_signed}
-use Rattle.fs_model_wider_forms.proofs.WordsExtended.{extended_of, extended_min, extended_max, word_of_fits, fits_wide, signed_fits}
-use Rattle.fs_model_wider_forms.proofs.WordsExact.{and_exact, or_exact, xor_exact, less_exact, less_signed_exact, min_signed_exact, max_signed_exact, add_exact, shift_left_exact}
+use Rattle.fs_app_plain.specs.Instructions64.{extended, doubleword_of, add, is_less_signed}
+use Rattle.fs_app_plain.proofs.WordsExtended.{extended_of, extended_min, extended_max, word_of_fits, fits_wide, signed_fits}
+use Rattle.fs_app_plain.proofs.WordsExact.{and_exact, or_exact, xor_exact, less_exact, less_signed_exact, min_signed_exact, max_signed_exact, add_exact, shift_left_exact}
 use Rattle.fs_app_plain.specs.Exact.{IsExactComputed, IsExactImmediate, IsExactShifted, IsExactCombined}
 
 -- all of two registers but sums, differences and shifts

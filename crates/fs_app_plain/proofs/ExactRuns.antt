@@ -9,7 +9,7 @@ use Rattle.fs_model.specs.declared.test.Test.{Test}
 use Rattle.fs_model.specs.Execution.{registers_of}
 use Rattle.fs_model.specs.Trace.{start_with}
 use Rattle.fs_model.specs.Values.{HasAllRuns}
-use Rattle.fs_model_wider_forms.specs.Wide.{AreExact, IsExactTest}
+use Rattle.fs_app_plain.specs.Wide.{AreExact, IsExactTest}
 use Rattle.fs_values.specs.AllRuns.{runs_in}
 
 abbrev pub AreExactRuns : Test → ℕ → List Trace → Type 0

@@ -13,9 +13,9 @@ use Rattle.fs_model.specs.declared.hart.Hart.{Hart}
 use Rattle.fs_model.specs.declared.step.Step.{Step}
 use Rattle.fs_model.specs.Instructions as words
 use Rattle.fs_model.specs.Instructions.{read}
-use Rattle.fs_model_wider_forms.specs.Instructions64.{extended, computed, computed_with, shifted, combined, doubleword_of, result_in, stored_in}
-use Rattle.fs_model_wider_forms.specs.Wide.{IsExact}
-use Rattle.fs_model_wider_forms.proofs.WordsLaws.{read_extended}
+use Rattle.fs_app_plain.specs.Instructions64.{extended, computed, computed_with, shifted, combined, doubleword_of, result_in, stored_in}
+use Rattle.fs_app_plain.specs.Wide.{IsExact}
+use Rattle.fs_app_plain.proofs.WordsLaws.{read_extended}
 use Rattle.fs_app_plain.specs.Exact.{IsExactComputed, IsExactImmediate, IsExactShifted, IsExactCombined}
 
 -- as `IsExact`, of registers x, the words that are loaded and stored, and an instruction

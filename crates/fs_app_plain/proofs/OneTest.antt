@@ -12,7 +12,7 @@ use Rattle.fs_model.specs.TooMany.{AreMoreThan, most_choice_lists, EndsAstray, E
 use Rattle.fs_values.specs.ThinAir.{MeetsNoFault, CanBeListed}
 use Rattle.fs_litmus.specs.Reads.{Reads}
 use Rattle.fs_litmus.proofs.ReadsOnce.{reads_once}
-use Rattle.fs_model_wider_forms.specs.Wide.{IsExactTest}
+use Rattle.fs_app_plain.specs.Wide.{IsExactTest}
 use Rattle.fs_app_plain.specs.Exactly.{IsExactText}
 
 -- the test with another condition

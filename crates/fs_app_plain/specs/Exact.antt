@@ -5,7 +5,7 @@ use Rattle.fs_instr.specs.declared.names.ImmOp.{ImmOp}
 use Rattle.fs_instr.specs.declared.names.ShiftOp.{ShiftOp}
 use Rattle.fs_instr.specs.declared.names.AmoOp.{AmoOp}
 use Rattle.fs_model.specs.Instructions as words
-use Rattle.fs_model_wider_forms.specs.Instructions64.{extended, doubleword_of, computed, computed_with, shifted, combined}
+use Rattle.fs_app_plain.specs.Instructions64.{extended, doubleword_of, computed, computed_with, shifted, combined}
 
 abbrev pub IsExactComputed : RegOp → ℕ → ℕ → Type 0
 IsExactComputed op a b = extended (words.computed op a b) ≡ computed op (extended a) (extended b)

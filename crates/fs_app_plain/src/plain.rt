@@ -4,7 +4,7 @@ ghost use Rattle.std.specs.Prelude.{◌≡◌, ◌≢◌, true, false, All, IfOk
 ghost use Rattle.fs_kinds.specs.declared.fault.Fault.TheVariants.{Memory};
 ghost use Rattle.fs_model.specs.Test.{IsBounded, IsStart, IsTest};
 ghost use Rattle.fs_values.specs.ThinAir.{CanBeListed};
-ghost use Rattle.fs_model_wider_forms.specs.Wide.{IsExactTest};
+ghost use Rattle.fs_app_plain.specs.Wide.{IsExactTest};
 ghost use Rattle.fs_app_plain.specs.Exactly.{IsExactText};
 
 use crate::guard::{Asked, asked_of, is_balanced, push_line};

@@ -7,7 +7,7 @@ ghost use Rattle.fs_model.specs.Execution.{registers_of};
 ghost use Rattle.fs_model.specs.Test.{IsBounded, IsStart};
 ghost use Rattle.fs_model.specs.Trace.{start_with, after_step};
 ghost use Rattle.fs_values.specs.ThinAir.{CanBeListed};
-ghost use Rattle.fs_model_wider_forms.specs.Wide.{IsExact, AreExact, IsExactTest};
+ghost use Rattle.fs_app_plain.specs.Wide.{IsExact, AreExact, IsExactTest};
 ghost use Rattle.fs_instr.specs.declared.names.ShiftOp.TheVariants.{Slli, Srli};
 ghost use Rattle.fs_app_plain.specs.Exact.{IsExactComputed, IsExactImmediate, IsExactShifted, IsExactCombined};
 

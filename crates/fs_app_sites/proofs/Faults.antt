@@ -9,7 +9,7 @@ use Rattle.fs_kinds.specs.declared.fault.Fault.{Fault}
 use Rattle.fs_kinds.specs.declared.fault.Fault.TheVariants.{BadPrices, Memory, NodeLimit}
 use Rattle.fs_sites.specs.Answers.{IsSolveFault}
 use Rattle.fs_sites.specs.Questions.{Question}
-use Rattle.fs_app_place_order.proofs.Faults.{is_memory}
+use Rattle.fs_app_place_and_order.proofs.Faults.{is_memory}
 use Rattle.fs_app_sites.specs.declared.content.Tests.{Tests}
 use Rattle.fs_app_sites.specs.Asked.{IsAsked, IsFirstAskedFault}
 use Rattle.fs_app_sites.specs.Asked as asked

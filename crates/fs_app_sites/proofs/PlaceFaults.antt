@@ -11,7 +11,7 @@ use Rattle.fs_litmus.specs.Fence.{IsShort}
 use Rattle.fs_cert_evidence.specs.WitnessFile.{IsWitnessFault, IsWitnessFile}
 use Rattle.fs_board_offers.specs.Offers.{Offers}
 use Rattle.fs_sites.specs.declared.question.Place.{Place}
-use Rattle.fs_app_place_order.proofs.Faults.{is_memory}
+use Rattle.fs_app_place_and_order.proofs.Faults.{is_memory}
 use Rattle.fs_app_sites.specs.Sited.{AreBadWords, AreFences, ArePut, AreSites, IsSitedFault}
 use Rattle.fs_app_sites.specs.Place.{AreGivenPrices, IsFirstSitesPlaceFault, IsGivenPricesFault, IsPlaceAsked, are_offered, fenced_at}
 use Rattle.fs_app_sites.specs.Place as place

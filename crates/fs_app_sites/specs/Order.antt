@@ -11,7 +11,7 @@ use Rattle.fs_cert_evidence.specs.WitnessFile.{IsWitnessFile}
 use Rattle.fs_sites.specs.declared.question.Place.{Place}
 use Rattle.fs_sites.specs.Questions.{image}
 use Rattle.fs_app_io.specs.declared.status.Status.{Status}
-use Rattle.fs_app_place_order.specs.Order.{verdict_line, verdict_status}
+use Rattle.fs_app_place_and_order.specs.Order.{verdict_line, verdict_status}
 use Rattle.fs_app_sites.specs.Sited.{AreBadWords, AreFences, AreSites, IsSitedFault}
 
 -- the verdict on the witness in the test with the fence of each site at all its copies is printed

@@ -22,7 +22,7 @@ mod words;
 
 pub use ask::{Asked, read_question};
 pub use content::{File, SiteCopy, Tests, check_file, read_all_copies, read_copies};
-pub use fs_sites_workers::Limits;
+pub use fs_sites_search::Limits;
 pub use laws::slots_stand_as_slots;
 pub use names::add_copies;
 pub use needs::needs_text;

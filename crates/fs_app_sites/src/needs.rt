@@ -9,8 +9,7 @@ use fs_app_error_messages::shown_name;
 use fs_judge::{Judge, Problem, Verdict};
 use fs_kinds::{Fault, Placement, Slot};
 use fs_sites::{Answer, Part, image};
-use fs_sites_search::solve;
-use fs_sites_workers::Limits;
+use fs_sites_search::{Limits, solve};
 use std::alloc::{AllocError, Global};
 use std::sync::Arc;
 

@@ -4,7 +4,7 @@ ghost use Rattle.std.specs.Prelude.{◌≡◌, ◌≤◌, Bool, ℕ, List, IfOk,
 ghost use Rattle.fs_kinds.specs.Slot.{is_rising};
 ghost use Rattle.fs_model.specs.Test.{IsTest};
 ghost use Rattle.fs_sites.specs.Questions.{slots_at};
-ghost use Rattle.fs_app_place_order.specs.Order.{verdict_line, verdict_status};
+ghost use Rattle.fs_app_place_and_order.specs.Order.{verdict_line, verdict_status};
 ghost use Rattle.fs_app_sites.specs.Sites.{most_sites};
 ghost use Rattle.fs_app_sites.specs.Sited.{AreFences, AreSites};
 ghost use Rattle.fs_app_sites.specs.Order.{IsFirstSitesOrderFault, IsSitesOrderAnswer};

@@ -11,7 +11,7 @@ use crate::report::answer_text;
 use fs_app_io::{Output, Status};
 use fs_kinds::Fault;
 use fs_sites::Answer;
-use fs_sites_workers::{Limits, solve};
+use fs_sites_search::{Limits, solve_by};
 use std::alloc::Global;
 use std::thread::Threads;
 
@@ -47,7 +47,7 @@ pub fn run_sites<R: Threads + Sync>(
 {
     let asked = read_question(alloc, tests, prices)?;
     let names = asked.names.as_slice();
-    let answer = solve(rt, alloc, &asked.question, limits)?;
+    let answer = solve_by(rt, alloc, &asked.question, limits)?;
     solved_of(alloc, tests, names, &answer, is_json)
 }
 

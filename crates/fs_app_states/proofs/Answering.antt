@@ -9,9 +9,9 @@ use Rattle.fs_model.specs.declared.test.Test.{Test}
 use Rattle.fs_model.specs.Placed.{IsPlaced}
 use Rattle.fs_model.specs.Slots.{slots}
 use Rattle.fs_model.specs.Test.{IsBounded}
-use Rattle.fs_app_place_order.specs.Place.{IsBadFences}
-use Rattle.fs_app_place_order.proofs.Faults.{is_memory}
-use Rattle.fs_judge_final_states.specs.States.{IsStatesFault, word_at}
+use Rattle.fs_app_place_and_order.specs.Place.{IsBadFences}
+use Rattle.fs_app_place_and_order.proofs.Faults.{is_memory}
+use Rattle.fs_judge_outcomes.specs.States.{IsStatesFault, word_at}
 use Rattle.fs_app_states.specs.declared.asked.Shown.{Shown}
 use Rattle.fs_app_states.specs.declared.columns.Column.{Column}
 use Rattle.fs_app_states.specs.Places.{AreColumns, IsColumnsFault}

@@ -4,8 +4,8 @@ use Rattle.std.specs.Prelude.{fold}
 use Rattle.std.specs.List.{filter, list_any}
 use Rattle.std.specs.Map.{keys_of}
 use Rattle.std.proofs.lemmas.List.Elements.{filter_agree}
-use Rattle.fs_judge_final_states.specs.declared.state.State.{State}
-use Rattle.fs_judge_final_states.specs.States.{words_of}
+use Rattle.fs_judge_outcomes.specs.declared.state.State.{State}
+use Rattle.fs_judge_outcomes.specs.States.{words_of}
 use Rattle.fs_app_states.specs.Compared.{is_among, is_lacking}
 use Rattle.fs_app_states.specs.Tallies.{Counted, is_of, more_often, IsTally}
 

@@ -5,7 +5,7 @@ use Rattle.std.proofs.lemmas.List.{append_assoc, map-append, take_more}
 use Rattle.std.proofs.lemmas.List.Elements.{All-push}
 use Rattle.std.proofs.lemmas.List.Folds.{list_any-append}
 use Rattle.fs_model.specs.declared.test.Test.{Test}
-use Rattle.fs_judge_final_states.specs.States.{ArePlacesOf, IsPlaceOf}
+use Rattle.fs_judge_outcomes.specs.States.{ArePlacesOf, IsPlaceOf}
 use Rattle.fs_app_states.specs.declared.columns.Column.{Column}
 use Rattle.fs_app_states.specs.Rows.{are_apart, is_place}
 

@@ -9,8 +9,8 @@ use Rattle.fs_model.specs.declared.test.Test.{Test}
 use Rattle.fs_model.specs.Condition.{Condition, condition_of, Always, Never, RegisterIs, LocationIs, Deny, Both, Either, SpeaksOf}
 use Rattle.fs_model.specs.Numbers.{numbers_below}
 use Rattle.fs_model.specs.Shows.{holds}
-use Rattle.fs_judge_final_states.specs.declared.place.Place.{Place}
-use Rattle.fs_judge_final_states.specs.declared.place.Place.TheVariants.{Register, Location}
+use Rattle.fs_judge_outcomes.specs.declared.place.Place.{Place}
+use Rattle.fs_judge_outcomes.specs.declared.place.Place.TheVariants.{Register, Location}
 use Rattle.fs_app_states.specs.declared.columns.Column.{Column}
 use Rattle.fs_app_states.specs.Places.{is_place, speaks_of, is_shown, all_places, shown_places, AreColumns}
 use Rattle.fs_app_states.specs.Report.{word_in, is_true}

@@ -7,7 +7,7 @@ use Rattle.fs_kinds.specs.declared.placement.Entry.{Entry}
 use Rattle.fs_model.specs.declared.test.Location as locations
 use Rattle.fs_model.specs.declared.test.Test.{Test}
 use Rattle.fs_report.proofs.Depths.{no_float}
-use Rattle.fs_judge_final_states.specs.declared.state.State.{State}
+use Rattle.fs_judge_outcomes.specs.declared.state.State.{State}
 use Rattle.fs_app_states.specs.declared.columns.Column.{Column}
 use Rattle.fs_app_states.specs.Objects.{execution_value, place_value, state_value, states_value, word_value}
 

@@ -14,7 +14,7 @@ use Rattle.fs_model.specs.Placed.{IsPlaced}
 use Rattle.fs_model.specs.Slots.{slots}
 use Rattle.fs_litmus.specs.Reads.{Reads}
 use Rattle.fs_app_error_messages.specs.Messages.{name_text}
-use Rattle.fs_judge_final_states.specs.States.{AreStates}
+use Rattle.fs_judge_outcomes.specs.States.{AreStates}
 use Rattle.fs_app_states.specs.Names.{state_line}
 use Rattle.fs_app_states.specs.declared.columns.Column.{Column}
 use Rattle.fs_app_states.specs.Rows.{AreFirstColumns, IsRow}

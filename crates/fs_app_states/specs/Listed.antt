@@ -10,7 +10,7 @@ use Rattle.fs_kinds.specs.declared.fault.Fault.TheVariants.{Syntax}
 use Rattle.fs_litmus.specs.Faults.{line_at}
 use Rattle.fs_model.specs.declared.test.Test.{Test}
 use Rattle.fs_model.specs.Numbers.{is_same}
-use Rattle.fs_judge_final_states.specs.declared.place.Place.{Place}
+use Rattle.fs_judge_outcomes.specs.declared.place.Place.{Place}
 use Rattle.fs_litmus_tokens.specs.Numbers.{number_of}
 use Rattle.fs_litmus_tokens.specs.Tokens.{Lined, Tok, Word, Sign}
 use Rattle.fs_litmus_tokens.specs.declared.word.Class.TheVariants.{LocationsWord}

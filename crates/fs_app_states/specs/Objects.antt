@@ -8,7 +8,7 @@ use Rattle.fs_model.specs.declared.test.Test.{Test}
 use Rattle.fs_model.specs.Condition.{condition_of}
 use Rattle.fs_model.specs.Printed.{value_text}
 use Rattle.fs_report.specs.Objects.{json_line}
-use Rattle.fs_judge_final_states.specs.declared.state.State.{State}
+use Rattle.fs_judge_outcomes.specs.declared.state.State.{State}
 use Rattle.fs_app_states.specs.declared.asked.Shown.{Shown}
 use Rattle.fs_app_states.specs.declared.columns.Column.{Column}
 use Rattle.fs_app_states.specs.Report.{condition_line, is_met, negative, observation_word, positive, quantifier_word, states_text}

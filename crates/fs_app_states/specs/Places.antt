@@ -8,8 +8,8 @@ use Rattle.fs_model.specs.declared.test.Test.{Test}
 use Rattle.fs_model.specs.Condition.{Condition, condition_of, RegisterIs, LocationIs, Deny, Both, Either}
 use Rattle.fs_model.specs.Numbers.{is_same, numbers_below}
 use Rattle.fs_model.specs.Printed.{name_of}
-use Rattle.fs_judge_final_states.specs.declared.place.Place.{Place}
-use Rattle.fs_judge_final_states.specs.declared.place.Place.TheVariants.{Register, Location}
+use Rattle.fs_judge_outcomes.specs.declared.place.Place.{Place}
+use Rattle.fs_judge_outcomes.specs.declared.place.Place.TheVariants.{Register, Location}
 use Rattle.fs_litmus_tokens.specs.Tokens.{Lined}
 use Rattle.fs_app_states.specs.declared.columns.Column.{Column}
 use Rattle.fs_app_states.specs.Listed.{items_of, AreListed, IsItemFault, first_name, register_text}

@@ -14,9 +14,9 @@ use Rattle.fs_model.specs.Fenced.{fenced}
 use Rattle.fs_model.specs.Printed.{ended, printed}
 use Rattle.fs_model.specs.Shows.{holds}
 use Rattle.fs_app_error_messages.specs.Messages.{name_text}
-use Rattle.fs_judge_final_states.specs.declared.place.Place.{Place}
-use Rattle.fs_judge_final_states.specs.declared.place.Place.TheVariants.{Register, Location}
-use Rattle.fs_judge_final_states.specs.declared.state.State.{State}
+use Rattle.fs_judge_outcomes.specs.declared.place.Place.{Place}
+use Rattle.fs_judge_outcomes.specs.declared.place.Place.TheVariants.{Register, Location}
+use Rattle.fs_judge_outcomes.specs.declared.state.State.{State}
 use Rattle.fs_app_states.specs.declared.columns.Column.{Column}
 use Rattle.fs_app_states.specs.Names.{state_line}
 use Rattle.fs_app_states.specs.Places.{is_place}

@@ -5,9 +5,9 @@ use Rattle.fs_litmus_tokens.specs.Numbers.{number_of}
 use Rattle.fs_model.specs.Test.{address_of}
 use Rattle.fs_model.specs.declared.test.Test.{Test}
 use Rattle.fs_litmus.specs.Settings.{signed}
-use Rattle.fs_judge_final_states.specs.declared.place.Place.{Place}
-use Rattle.fs_judge_final_states.specs.declared.place.Place.TheVariants.{Register, Location}
-use Rattle.fs_judge_final_states.specs.States.{ArePlacesOf}
+use Rattle.fs_judge_outcomes.specs.declared.place.Place.{Place}
+use Rattle.fs_judge_outcomes.specs.declared.place.Place.TheVariants.{Register, Location}
+use Rattle.fs_judge_outcomes.specs.States.{ArePlacesOf}
 use Rattle.fs_app_error_messages.specs.Messages.{name_text}
 use Rattle.fs_app_states.specs.Names.{IsNamed}
 use Rattle.fs_app_states.specs.declared.columns.Column.{Column}

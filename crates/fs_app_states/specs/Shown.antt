@@ -11,10 +11,10 @@ use Rattle.fs_model.specs.Execution.{Execution, pre_execution}
 use Rattle.fs_model.specs.Placed.{IsPlaced}
 use Rattle.fs_model.specs.Shows.{holds, final_register, final_word}
 use Rattle.fs_model.specs.Slots.{slots}
-use Rattle.fs_app_place_order.specs.Place.{IsBadFences}
-use Rattle.fs_judge_final_states.specs.declared.place.Place.{Place}
-use Rattle.fs_judge_final_states.specs.declared.state.State.{State}
-use Rattle.fs_judge_final_states.specs.States.{AreStates, IsShownState, IsStatesFault, state_of, words_of}
+use Rattle.fs_app_place_and_order.specs.Place.{IsBadFences}
+use Rattle.fs_judge_outcomes.specs.declared.place.Place.{Place}
+use Rattle.fs_judge_outcomes.specs.declared.state.State.{State}
+use Rattle.fs_judge_outcomes.specs.States.{AreStates, IsShownState, IsStatesFault, state_of, words_of}
 use Rattle.fs_app_states.specs.declared.asked.Shown.{Shown}
 use Rattle.fs_app_states.specs.declared.columns.Column.{Column}
 use Rattle.fs_app_states.specs.Places.{AreColumns, IsColumnsFault}

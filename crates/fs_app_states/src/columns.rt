@@ -11,7 +11,7 @@ ghost use Rattle.fs_app_states.specs.Names.{register_at, bracketed_at, place_at,
 ghost use Rattle.fs_app_states.specs.Names.{IsNamed};
 
 use fs_instr::Reg;
-use fs_judge_final_states::Place;
+use fs_judge_outcomes::Place;
 use fs_litmus_tokens::{Kind, Mark, Token, number_of, tokens};
 use fs_model::{Location, Name, Test};
 use std::alloc::{AllocError, Global};

@@ -5,7 +5,7 @@ ghost use Rattle.std.specs.Arc.{arc_value};
 ghost use Rattle.fs_kinds.specs.Placement.{slots_of};
 ghost use Rattle.fs_model.specs.Slots.{slots};
 ghost use Rattle.fs_model.specs.Test.{IsBounded, IsStart};
-ghost use Rattle.fs_judge_final_states.specs.States.{ArePlacesOf};
+ghost use Rattle.fs_judge_outcomes.specs.States.{ArePlacesOf};
 ghost use Rattle.fs_app_states.specs.Compared.{states_seen, compared_text, lacking_text, is_in_log, status_of};
 ghost use Rattle.fs_app_states.specs.Compared.{AreFindings, IsHeld, IsComparedTo, IsCompared};
 ghost use Rattle.fs_app_states.specs.Tallies.{counted};
@@ -16,7 +16,7 @@ use crate::tally::{Row, tally_of};
 use crate::text::{Findings, compared_text, lacking_text};
 use crate::{Block, Column, Log, LogError};
 use fs_app_io::Status;
-use fs_judge_final_states::states;
+use fs_judge_outcomes::states;
 use fs_kinds::{Fault, List, Placement};
 use fs_litmus::{read_fences, read_test};
 use fs_model::Test;
@@ -161,7 +161,7 @@ fn compare_test(
 ///
 /// The error is the first fault of the test file, by number and then line; F12 of the words; the line of a state that
 /// doesn't name the places of the first one, or names a place or a value that the test hasn't; the fault of `states` of
-/// fs_judge_final_states; or F19. The cost is that of `states`, and nearly linear in the log.
+/// fs_judge_outcomes; or F19. The cost is that of `states`, and nearly linear in the log.
 pub fn compare(
     alloc: Global,
     log: &Log<'_>,

@@ -7,7 +7,7 @@ ghost use Rattle.fs_app_states.specs.Report.{counts, counted};
 use crate::columns::Column;
 use crate::report::is_true;
 use fs_cert_evidence::{ChoiceLists, Choices, Witness};
-use fs_judge_final_states::State;
+use fs_judge_outcomes::State;
 use fs_kinds::List;
 use fs_model::{Outcome, Test};
 use std::alloc::{AllocError, Global};

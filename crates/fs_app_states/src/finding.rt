@@ -2,12 +2,12 @@
 
 ghost use Rattle.std.specs.Prelude.{◌≡◌, None, map, IfOk};
 ghost use Rattle.std.specs.List.{filter};
-ghost use Rattle.fs_judge_final_states.specs.States.{words_of};
+ghost use Rattle.fs_judge_outcomes.specs.States.{words_of};
 ghost use Rattle.fs_app_states.specs.Compared.{is_lacking};
 ghost use Rattle.fs_app_states.specs.Tallies.{counted, entries_of};
 
 use crate::tally::{Row, Tally, has};
-use fs_judge_final_states::State;
+use fs_judge_outcomes::State;
 use fs_kinds::List;
 use std::alloc::{AllocError, Global};
 

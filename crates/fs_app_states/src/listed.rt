@@ -16,7 +16,7 @@ ghost use Rattle.fs_app_states.specs.Listed.{named_first, first_name, register_t
 use crate::columns::place_of;
 use crate::slices::from;
 use fs_instr::Reg;
-use fs_judge_final_states::Place;
+use fs_judge_outcomes::Place;
 use fs_kinds::{Fault, List};
 use fs_litmus_tokens::{Class, Kind, Mark, Token, number_of};
 use fs_model::Test;

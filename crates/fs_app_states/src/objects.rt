@@ -18,7 +18,7 @@ use crate::columns::{Column, push_value};
 use crate::report::{
     condition_line, is_met, negative, observation_word, positive, quantifier_word, states_text,
 };
-use fs_judge_final_states::State;
+use fs_judge_outcomes::State;
 use fs_kinds::{Fault, Placement};
 use fs_model::{Location, Test};
 use fs_report::{json_line, witness_value};

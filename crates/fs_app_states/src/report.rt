@@ -21,7 +21,7 @@ use crate::columns::{Column, push_state};
 use crate::places::is_place;
 use fs_app_error_messages::shown_name;
 use fs_cert_evidence::Witness;
-use fs_judge_final_states::{Place, State};
+use fs_judge_outcomes::{Place, State};
 use fs_kinds::{Fault, Placement};
 use fs_model::{Location, Outcome, Quantifier, Test, write_fenced};
 use fs_report::witness_text;

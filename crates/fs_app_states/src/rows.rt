@@ -4,7 +4,7 @@ ghost use Rattle.std.specs.Prelude.{◌≡◌, ◌++◌, ◌∷◌, [], true, Li
 ghost use Rattle.std.specs.List.{AllZip, list_any};
 ghost use Rattle.std.specs.Str.{bytes_eq};
 ghost use Rattle.fs_model.specs.Test.{IsBounded};
-ghost use Rattle.fs_judge_final_states.specs.States.{IsPlaceOf, ArePlacesOf};
+ghost use Rattle.fs_judge_outcomes.specs.States.{IsPlaceOf, ArePlacesOf};
 ghost use Rattle.fs_app_states.specs.Rows.{are_apart, is_place, AreColumns, AreFirstColumns, IsColumn, IsRow};
 ghost use Rattle.fs_app_states.specs.Compared.{states_seen};
 ghost use Rattle.fs_app_states.specs.Tallies.{counted};
@@ -15,7 +15,7 @@ use crate::setting::{is_place, settings_of, words_at};
 use crate::tally::Row;
 use crate::{Block, Column, Expected, Item, LogError, Seen, place_named};
 use fs_app_error_messages::shown_name;
-use fs_judge_final_states::Place;
+use fs_judge_outcomes::Place;
 use fs_kinds::List as Items;
 use fs_model::{Name, Test};
 use std::alloc::{AllocError, Global};

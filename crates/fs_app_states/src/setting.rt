@@ -9,7 +9,7 @@ ghost use Rattle.fs_app_states.specs.declared.log.Item.{Item as Items};
 use crate::value::word_in;
 use crate::{Column, Expected, Item, LogError, Seen, place_named};
 use fs_instr::Reg;
-use fs_judge_final_states::Place;
+use fs_judge_outcomes::Place;
 use fs_model::Test;
 use std::alloc::{AllocError, Global};
 

@@ -7,7 +7,7 @@ ghost use Rattle.fs_kinds.specs.Placement.{slots_of};
 ghost use Rattle.fs_litmus.specs.Reads.{Reads};
 ghost use Rattle.fs_model.specs.Slots.{slots};
 ghost use Rattle.fs_model.specs.Test.{IsBounded, IsStart, IsTest};
-ghost use Rattle.fs_judge_final_states.specs.States.{AreStates, ArePlacesOf, IsShownState, IsStatesFault, words_of};
+ghost use Rattle.fs_judge_outcomes.specs.States.{AreStates, ArePlacesOf, IsShownState, IsStatesFault, words_of};
 ghost use Rattle.fs_model.specs.Condition.{condition_of};
 ghost use Rattle.fs_app_states.specs.Objects.{shown_text};
 ghost use Rattle.fs_app_states.specs.Report.{counted};
@@ -19,7 +19,7 @@ use crate::columns::Column;
 use crate::counted::counted;
 use crate::objects::shown_text;
 use crate::places::columns;
-use fs_judge_final_states::{Place, State, states};
+use fs_judge_outcomes::{Place, State, states};
 use fs_kinds::{Fault, List, Placement};
 use fs_litmus::{Test, read_fences, read_test};
 use std::alloc::{AllocError, Global};
@@ -37,7 +37,7 @@ use std::sync::Arc;
 ///
 /// The first fault in this order: those of a test file by number and then line; `Syntax` of an item of `locations`;
 /// `BadFence`; `TooManyTraces` and `Astray`; `TooManyCandidates`. `Memory` may come in place of any answer. The cost
-/// is that of `read_test` and of `states` of fs_judge_final_states, and what is linear in the states.
+/// is that of `read_test` and of `states` of fs_judge_outcomes, and what is linear in the states.
 pub fn run_states(
     alloc: Global,
     test: &[u8],

@@ -6,7 +6,7 @@ ghost use Rattle.fs_litmus.specs.Settings.{signed};
 ghost use Rattle.fs_app_states.specs.Rows.{number_in, IsAddress, IsValue};
 
 use crate::place_named;
-use fs_judge_final_states::Place;
+use fs_judge_outcomes::Place;
 use fs_litmus_tokens::number_of;
 use fs_model::{Location, Test};
 use std::alloc::{AllocError, Global};

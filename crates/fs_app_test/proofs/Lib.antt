@@ -1,3 +1,5 @@
 pub mod TestFaults
 pub mod Texts
 pub mod Whole
+pub mod Growing
+pub mod Paired

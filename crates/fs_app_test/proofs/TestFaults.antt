@@ -5,7 +5,7 @@ use Rattle.fs_kinds.specs.declared.fault.Fault.TheVariants.{Memory}
 use Rattle.fs_model.specs.declared.test.Test.{Test}
 use Rattle.fs_litmus.specs.Reads.{Reads}
 use Rattle.fs_litmus.specs.Faults.{IsTestFault}
-use Rattle.fs_app_place_order.proofs.Faults.{is_memory}
+use Rattle.fs_app_place_and_order.proofs.Faults.{is_memory}
 use Rattle.fs_app_test.specs.SaidVerdicts.{IsFaultOf}
 use Rattle.fs_app_test.specs.Verdicts.{IsFirstTestFault, of_test, of_runs, of_candidates, of_open, of_memory}
 

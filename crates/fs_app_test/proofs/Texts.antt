@@ -6,7 +6,7 @@ use Rattle.std.specs.Option.{option_or}
 use Rattle.std.proofs.lemmas.List.Elements.{All-head, All-tail}
 use Rattle.fs_model.specs.declared.test.Test.{Test}
 use Rattle.fs_model.specs.Shows.{final_register}
-use Rattle.fs_region_runs.specs.Alone.{RunOf}
+use Rattle.fs_region_refutation.specs.Alone.{RunOf}
 use Rattle.fs_cert_evidence.specs.Musts.{traces_of}
 use Rattle.fs_region_refutation.specs.Runs.{AreOfHart}
 use Rattle.fs_app_test.specs.inner.Parts.{ends_with}

@@ -6,3 +6,6 @@ pub mod Notes
 pub mod Verdicts
 pub mod Report
 pub mod inner
+pub mod Rows
+pub mod FaultObjects
+pub mod Judging

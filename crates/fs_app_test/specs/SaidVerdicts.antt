@@ -15,7 +15,7 @@ use Rattle.fs_cert_evidence.specs.Valid.{Forbid}
 use Rattle.fs_cert_evidence.specs.Evidence.{Shown}
 use Rattle.fs_app_test.specs.declared.said.Kind.{Kind}
 use Rattle.fs_app_test.specs.declared.said.Kind.TheVariants as kind
-use Rattle.fs_judge_vacuous_outcomes.specs.Vacuous.{IsVacuous, HasManyRuns}
+use Rattle.fs_judge_outcomes.specs.Vacuous.{IsVacuous, HasManyRuns}
 use Rattle.fs_app_test.specs.Words.{contradictions_in, forbidden_words, overtaking, order_words, never_in_outcome, never_words}
 
 -- no execution of the test as it is written shows the outcome

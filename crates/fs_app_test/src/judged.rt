@@ -41,7 +41,7 @@ pub(crate) fn shared(alloc: Global, test: Test) -> Result<Arc<Test>, AllocError>
 /// The first fault in this order: `TooManyTraces` and `Astray`; `TooManyCandidates`, which doesn't come where the test
 /// is found to be vacuous. It comes also where it is left open whether the test is vacuous, and what forbids the
 /// outcome has no contradiction. `Memory` may come in place of any answer. The cost is that of `Basis::new`, of
-/// `is_vacuous` of fs_judge_vacuous_outcomes, and of `Problem::over` and `Judge::verdict` of fs_judge.
+/// `is_vacuous` of fs_judge_outcomes, and of `Problem::over` and `Judge::verdict` of fs_judge.
 pub fn judge_test(alloc: Global, test: &Arc<Test>) -> Result<Said, Fault>
     requires bounded { IsBounded (arc_value test.now) }
     requires starts { All IsStart (arc_value test.now).starts }

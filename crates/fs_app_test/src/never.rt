@@ -19,8 +19,7 @@ ghost use Rattle.fs_app_test.specs.Words.{atoms, never_in_outcome, never_words};
 use fs_instr::Reg;
 use fs_kinds::List;
 use fs_model::{Location, Outcome, Quantifier, Step, Test};
-use fs_region_refutation::Basis;
-use fs_region_runs::Lone;
+use fs_region_refutation::{Basis, Lone};
 use fs_report::{name_of, value_text};
 use std::alloc::{AllocError, Global};
 

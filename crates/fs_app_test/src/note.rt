@@ -20,7 +20,7 @@ use std::alloc::{AllocError, Global};
 
 /// A line that says of a test file that its test is vacuous, and why, as `test` does. None where it isn't, or where
 /// that is left open. The cost is that of `read_test`, of `Basis::new`, and of `is_vacuous` of
-/// fs_judge_vacuous_outcomes.
+/// fs_judge_outcomes.
 ///
 /// The first fault in this order: those of a test file by number and then line; `TooManyTraces` and `Astray`. `Memory`
 /// may come in place of any answer.

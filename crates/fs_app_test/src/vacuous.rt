@@ -8,7 +8,7 @@ ghost use Rattle.fs_app_test.specs.inner.Vacuities.{IsVacuity};
 
 use crate::never::vacuous_text;
 use crate::{Kind, Said};
-use fs_judge_vacuous_outcomes::is_vacuous;
+use fs_judge_outcomes::is_vacuous;
 use fs_kinds::Fault;
 use fs_model::Test;
 use fs_region_refutation::Basis;
@@ -27,7 +27,7 @@ pub(crate) enum Vacuity {
 }
 
 /// Whether the test with these runs is vacuous, and where it is what is said of it. The error is F19. The cost is that
-/// of `is_vacuous` of fs_judge_vacuous_outcomes.
+/// of `is_vacuous` of fs_judge_outcomes.
 pub(crate) fn vacuous(alloc: Global, test: &Arc<Test>, basis: &Basis) -> Result<Vacuity, Fault>
     requires same { basis.now ≡ arc_value test.now }
     requires listable { CanBeListed (arc_value test.now) }

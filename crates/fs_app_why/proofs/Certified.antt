@@ -17,10 +17,10 @@ use Rattle.fs_cert_evidence.specs.Shown.{IsShownBy}
 use Rattle.fs_cert_evidence.specs.WitnessFile.{KeepsWitness}
 use Rattle.fs_check.specs.declared.ordered.OrderedCandidate.{OrderedCandidate}
 use Rattle.fs_check.specs.Ordered.{execution_in}
-use Rattle.fs_app_why_kinds.specs.Kinds.{ChainKind}
-use Rattle.fs_app_why_nearer.specs.First.{IsOfFirst, NoneShows}
-use Rattle.fs_app_why_nearer.specs.Reordered.{IsFirstShown, IsToldOf}
-use Rattle.fs_app_why_kinds.specs.declared.told.Telling.{Telling}
+use Rattle.fs_app_why.specs.Kinds.{ChainKind}
+use Rattle.fs_app_why.specs.First.{IsOfFirst, NoneShows}
+use Rattle.fs_app_why.specs.Reordered.{IsFirstShown, IsToldOf}
+use Rattle.fs_app_why.specs.declared.telling.Telling.{Telling}
 use Rattle.fs_app_why.specs.Why.{NoWitnessShows, TellsEntry, TellsFences, asked}
 
 -- the first file that is kept is of the first witness

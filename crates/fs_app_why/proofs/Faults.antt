@@ -10,8 +10,8 @@ use Rattle.fs_litmus.proofs.FrontFaults.{unbroken}
 use Rattle.fs_cert_evidence.specs.CandidateFaults.{IsCandidateFault}
 use Rattle.fs_cert_evidence.specs.Certificate.{Answer, Certificate, Fenced}
 use Rattle.fs_cert_evidence.specs.CertificateFile.{IsCertificateFile}
-use Rattle.fs_app_place_order.specs.Place.{IsBadFences}
-use Rattle.fs_app_place_order.proofs.Faults.{is_memory}
+use Rattle.fs_app_place_and_order.specs.Place.{IsBadFences}
+use Rattle.fs_app_place_and_order.proofs.Faults.{is_memory}
 use Rattle.fs_model.specs.TooMany.{IsRunFault}
 use Rattle.fs_app_why.specs.Why.{HasRunFault, IsBadAnswer, IsWhyFault, of_certificate, of_test, of_fences, of_runs, of_memory}
 

@@ -1,3 +1,13 @@
 pub mod Certified
 pub mod Faults
 pub mod Texts
+pub mod Linked
+pub mod Walked
+pub mod Ranges
+pub mod Places
+pub mod Turns
+pub mod Stale
+pub mod FirstShown
+pub mod Reordering
+pub mod Kept
+pub mod Numbered

@@ -8,10 +8,10 @@ use Rattle.fs_model.specs.Witness.{Witness}
 use Rattle.fs_litmus.specs.Reads.{Reads}
 use Rattle.fs_litmus.specs.Lines.{StandIn}
 use Rattle.fs_cert_evidence.specs.Shown.{IsShownBy}
-use Rattle.fs_app_why_nearer.specs.Reordered.{IsToldOf}
-use Rattle.fs_app_why_kinds.specs.declared.told.Telling.{Telling}
-use Rattle.fs_app_why_nearer.specs.declared.told.Told.{Told}
-use Rattle.fs_app_why_nearer.specs.Executions.{operation_at}
+use Rattle.fs_app_why.specs.Reordered.{IsToldOf}
+use Rattle.fs_app_why.specs.declared.telling.Telling.{Telling}
+use Rattle.fs_app_why.specs.declared.told_execution.Told.{Told}
+use Rattle.fs_app_why.specs.Executions.{operation_at}
 use Rattle.fs_app_why.specs.inner.Told.{TellsExecution}
 use Rattle.fs_app_why.specs.Why.{IsAllowed, IsExecutionTold, IsForbiddenWhy, IsNotShown, TellsForbidden, TellsUnless, lacks_written, unwritten_text}
 use Rattle.fs_app_why.specs.Traces.{early_text, late_text, mark_text, marks_early, passed, passing, places}

@@ -11,19 +11,19 @@ use Rattle.fs_model.specs.declared.test.Test.{Test}
 use Rattle.fs_model.specs.Forms.{is_loading, is_storing}
 use Rattle.fs_model.specs.Numbers.{numbers_below}
 use Rattle.fs_model.specs.Printed.{value_text}
-use Rattle.fs_app_why_kinds.specs.declared.chain.Arrow.{Arrow}
-use Rattle.fs_app_why_kinds.specs.declared.chain.Arrow.TheVariants.{End}
-use Rattle.fs_app_why_kinds.specs.declared.chain.Chain.{Chain}
-use Rattle.fs_app_why_kinds.specs.declared.chain.ChainLink.{ChainLink}
-use Rattle.fs_app_why_kinds.specs.declared.chain.Shape.{Shape}
-use Rattle.fs_app_why_kinds.specs.declared.chain.Shape.TheVariants as shape
-use Rattle.fs_app_why_kinds.specs.declared.known.Known.{Known}
-use Rattle.fs_app_why_kinds.specs.Kinds.{ChainKind, told_links}
-use Rattle.fs_app_why_kinds.specs.Arrows.{arrow_text}
-use Rattle.fs_app_why_kinds.specs.Counted.{rest_text}
-use Rattle.fs_app_why_kinds.specs.declared.told.Telling.{Telling}
-use Rattle.fs_app_why_kinds.specs.Told.{is_told, kind_at, told_chain}
-use Rattle.fs_app_why_kinds.specs.Words.{instr_named, line_of, text_of_instr}
+use Rattle.fs_app_why.specs.declared.chain.Arrow.{Arrow}
+use Rattle.fs_app_why.specs.declared.chain.Arrow.TheVariants.{End}
+use Rattle.fs_app_why.specs.declared.chain.Chain.{Chain}
+use Rattle.fs_app_why.specs.declared.chain.ChainLink.{ChainLink}
+use Rattle.fs_app_why.specs.declared.chain.Shape.{Shape}
+use Rattle.fs_app_why.specs.declared.chain.Shape.TheVariants as shape
+use Rattle.fs_app_why.specs.declared.known.Known.{Known}
+use Rattle.fs_app_why.specs.Kinds.{ChainKind, told_links}
+use Rattle.fs_app_why.specs.Arrows.{arrow_text}
+use Rattle.fs_app_why.specs.Counted.{rest_text}
+use Rattle.fs_app_why.specs.declared.telling.Telling.{Telling}
+use Rattle.fs_app_why.specs.Told.{is_told, kind_at, told_chain}
+use Rattle.fs_app_why.specs.InstructionWords.{instr_named, line_of, text_of_instr}
 use Rattle.fs_app_why.specs.declared.signs.Sign.TheVariants as sign
 use Rattle.fs_app_why.specs.declared.table.Row.{Row}
 use Rattle.fs_app_why.specs.Signs.{some_told}

@@ -6,10 +6,10 @@ use Rattle.fs_model.specs.declared.step.Step.{Step}
 use Rattle.fs_model.specs.declared.test.Test.{Test}
 use Rattle.fs_cert_evidence.specs.Certificate.{Cycles, Inferred, Listed}
 use Rattle.fs_cert_evidence.specs.Trees.{AreItsRuns, roots}
-use Rattle.fs_app_why_kinds.specs.Chains.{chains_of}
-use Rattle.fs_app_why_kinds.specs.Ends.{ends}
-use Rattle.fs_app_why_kinds.specs.Kinds.{ChainKind, kinds_of}
-use Rattle.fs_app_why_kinds.specs.declared.told.Telling.{Telling}
+use Rattle.fs_app_why.specs.Chains.{chains_of}
+use Rattle.fs_app_why.specs.Ends.{ends}
+use Rattle.fs_app_why.specs.Kinds.{ChainKind, kinds_of}
+use Rattle.fs_app_why.specs.declared.telling.Telling.{Telling}
 use Rattle.fs_app_why.specs.Contradictions.{contradictions_text}
 
 -- the instructions in print, hart by hart

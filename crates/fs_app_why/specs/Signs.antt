@@ -6,17 +6,17 @@ use Rattle.fs_instr.specs.declared.instr.Instr.{Instr}
 use Rattle.fs_model.specs.declared.test.Test.{Test}
 use Rattle.fs_model.specs.Forms.{is_loading, is_storing}
 use Rattle.fs_model.specs.Numbers.{numbers_below}
-use Rattle.fs_app_why_kinds.specs.declared.chain.Chain.{Chain}
-use Rattle.fs_app_why_kinds.specs.declared.chain.ChainLink.{ChainLink}
-use Rattle.fs_app_why_kinds.specs.declared.chain.Shape.{Shape}
-use Rattle.fs_app_why_kinds.specs.declared.chain.Shape.TheVariants as shape
-use Rattle.fs_app_why_kinds.specs.declared.fences.Fence.{Fence}
-use Rattle.fs_app_why_kinds.specs.declared.known.Known.{Known}
-use Rattle.fs_app_why_kinds.specs.Kinds.{ChainKind}
-use Rattle.fs_app_why_kinds.specs.Arrows.{counts_before, counts_behind, if_amo}
-use Rattle.fs_app_why_kinds.specs.declared.told.Telling.{Telling}
-use Rattle.fs_app_why_kinds.specs.Told.{is_told, kind_at, told_chain}
-use Rattle.fs_app_why_kinds.specs.Words.{instr_named}
+use Rattle.fs_app_why.specs.declared.chain.Chain.{Chain}
+use Rattle.fs_app_why.specs.declared.chain.ChainLink.{ChainLink}
+use Rattle.fs_app_why.specs.declared.chain.Shape.{Shape}
+use Rattle.fs_app_why.specs.declared.chain.Shape.TheVariants as shape
+use Rattle.fs_app_why.specs.declared.fences.Fence.{Fence}
+use Rattle.fs_app_why.specs.declared.known.Known.{Known}
+use Rattle.fs_app_why.specs.Kinds.{ChainKind}
+use Rattle.fs_app_why.specs.Arrows.{counts_before, counts_behind, if_amo}
+use Rattle.fs_app_why.specs.declared.telling.Telling.{Telling}
+use Rattle.fs_app_why.specs.Told.{is_told, kind_at, told_chain}
+use Rattle.fs_app_why.specs.InstructionWords.{instr_named}
 use Rattle.fs_app_why.specs.declared.signs.Sign.{Sign}
 use Rattle.fs_app_why.specs.declared.signs.Sign.TheVariants as sign
 

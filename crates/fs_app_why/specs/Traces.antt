@@ -19,9 +19,9 @@ use Rattle.fs_model.specs.Printed.{name_of as location_name, value_text}
 use Rattle.fs_model.specs.Shows.{final_register, final_word}
 use Rattle.fs_model.specs.Source.{source_in}
 use Rattle.fs_model.specs.Witness.{name_of}
-use Rattle.fs_app_why_kinds.specs.Words.{and_joined, line_of}
-use Rattle.fs_app_why_nearer.specs.declared.told.Told.{Told}
-use Rattle.fs_app_why_nearer.specs.Executions.{name_at, operation_at, source_at, told_of}
+use Rattle.fs_app_why.specs.InstructionWords.{and_joined, line_of}
+use Rattle.fs_app_why.specs.declared.told_execution.Told.{Told}
+use Rattle.fs_app_why.specs.Executions.{name_at, operation_at, source_at, told_of}
 use Rattle.fs_app_why.specs.declared.table.Row.{Row}
 use Rattle.fs_app_why.specs.Tables.{table_text}
 use Rattle.fs_app_why.specs.Words.{place_text, word_text}

@@ -29,19 +29,19 @@ use Rattle.fs_cert_evidence.specs.CertificateFile.{IsCertificateFile}
 use Rattle.fs_cert_evidence.specs.Shown.{ShowsAs, IsShownBy}
 use Rattle.fs_cert_evidence.specs.Valid.{Forbid}
 use Rattle.fs_cert_evidence.specs.WitnessFile.{IsWitnessFile}
-use Rattle.fs_app_why_kinds.specs.declared.fences.Fence.TheVariants.{Placed}
-use Rattle.fs_app_why_kinds.specs.Fences.{is_fence}
-use Rattle.fs_app_why_kinds.specs.Kinds.{ChainKind}
-use Rattle.fs_app_place_order.specs.Place.{IsBadFences}
-use Rattle.fs_app_why_kinds.specs.declared.told.Telling.{Telling}
-use Rattle.fs_app_why_kinds.specs.declared.told.Telling.TheVariants.{One}
-use Rattle.fs_app_why_kinds.specs.Counted.{in_text}
-use Rattle.fs_app_why_kinds.specs.Told.{fence_key}
-use Rattle.fs_app_why_kinds.specs.Words.{instr_named, line_of, text_of_instr}
-use Rattle.fs_app_why_nearer.specs.Reordered.{IsFirstShown, IsToldOf}
+use Rattle.fs_app_why.specs.declared.fences.Fence.TheVariants.{Placed}
+use Rattle.fs_app_why.specs.Fences.{is_fence}
+use Rattle.fs_app_why.specs.Kinds.{ChainKind}
+use Rattle.fs_app_place_and_order.specs.Place.{IsBadFences}
+use Rattle.fs_app_why.specs.declared.telling.Telling.{Telling}
+use Rattle.fs_app_why.specs.declared.telling.Telling.TheVariants.{One}
+use Rattle.fs_app_why.specs.Counted.{in_text}
+use Rattle.fs_app_why.specs.Told.{fence_key}
+use Rattle.fs_app_why.specs.InstructionWords.{instr_named, line_of, text_of_instr}
+use Rattle.fs_app_why.specs.Reordered.{IsFirstShown, IsToldOf}
 use Rattle.fs_app_why.specs.Forbidden.{AreKinds, cycles_text}
 use Rattle.fs_app_why.specs.Traces.{trace_text}
-use Rattle.fs_app_why_nearer.specs.Weaker.{Serve, weaker_that, without_or_with}
+use Rattle.fs_app_why.specs.Weaker.{Serve, weaker_that, without_or_with}
 
 -- ---- of a witness to which `order` says yes, the execution that it gives
 

@@ -8,7 +8,7 @@ use Rattle.fs_model.specs.declared.test.Location.{Location}
 use Rattle.fs_model.specs.Numbers.{numbers_below}
 use Rattle.fs_model.specs.Printed.{value_text}
 use Rattle.fs_model.specs.Test.{address_of}
-use Rattle.fs_app_why_kinds.specs.Words.{line_of}
+use Rattle.fs_app_why.specs.InstructionWords.{line_of}
 
 abbrev pub is_address : List Location → ℕ → Bool
 is_address locations word = list_any (λ location. address_of location == word) (numbers_below (length locations))

@@ -3,22 +3,26 @@
 ghost use Rattle.std.specs.Prelude.{◌≡◌, ◌≤◌, ◌<◌, ◌++◌, length, IfOk, map, false, string_bytes, true};
 ghost use Rattle.fs_kinds.specs.Limits.{most_locations};
 ghost use Rattle.fs_model.specs.Forms.{is_loading, is_storing};
-ghost use Rattle.fs_app_why_kinds.specs.Counted.{rest_text};
-ghost use Rattle.fs_app_why_kinds.specs.Words.{text_of_instr};
+ghost use Rattle.fs_app_why.specs.Counted.{rest_text};
+ghost use Rattle.fs_app_why.specs.InstructionWords.{text_of_instr};
 ghost use Rattle.fs_app_why.specs.Contradictions.{above_text, again, also_text, amo_text, any_told, below_by};
 ghost use Rattle.fs_app_why.specs.Contradictions.{chain_text, contradictions_text, cycle_text, does_by, does_known};
 ghost use Rattle.fs_app_why.specs.Contradictions.{does_there, end_text, headed, heading_of, initial_text, is_text};
 ghost use Rattle.fs_app_why.specs.Contradictions.{kind_text, link_row, loaded_text, none_there, numbered_text};
 ghost use Rattle.fs_app_why.specs.Contradictions.{others_text, shape_text, told_text, unsaid_text};
 
+use crate::arrows::arrow_text;
+use crate::chain::{Arrow, Chain, ChainLink, Shape};
+use crate::counted::rest_text;
+use crate::instruction_words::{instr_named, instr_text};
+use crate::kinds::ChainKind;
+use crate::known::Known;
+use crate::likeness::told_links;
 use crate::rows::{line_cell, name_cell};
 use crate::signs::{Sign, some_told};
 use crate::table::{Row, table_text};
+use crate::telling::{Telling, is_told, told_place};
 use crate::words::{loads, stores, word_text};
-use fs_app_why_kinds::{
-    Arrow, Chain, ChainKind, ChainLink, Known, Shape, Telling, arrow_text, instr_named, instr_text,
-    is_told, rest_text, told_links, told_place,
-};
 use fs_instr::Instr;
 use fs_kinds::List;
 use fs_model::{Location, Name, Test};

@@ -12,7 +12,10 @@ ghost use Rattle.fs_cert_json.specs.Kept.{KeepsCycles};
 ghost use Rattle.fs_app_why.specs.Forbidden.{AreKinds, cycles_text};
 
 use crate::contradictions::contradictions_text;
-use fs_app_why_kinds::{ChainKind, Telling, chains, instr_text, kinds_of};
+use crate::instruction_words::instr_text;
+use crate::kinds::{ChainKind, kinds_of};
+use crate::telling::Telling;
+use crate::walk::chains;
 use fs_cert_evidence::Inference;
 use fs_cert_json::CertifiedCycles;
 use fs_instr::Instr;
@@ -51,7 +54,7 @@ fn texts_of(alloc: Global, codes: &[Code]) -> Result<Vec<List<Name>>, AllocError
 }
 
 /// The kinds of the ends to which the inferences come, in the order in which they are told. The cost is that of
-/// `chains` and `kinds_of` of fs_app_why_kinds; the faults are those of `Basis::new`.
+/// `chains` and `kinds_of` of fs_app_why; the faults are those of `Basis::new`.
 pub fn inferred_kinds(
     alloc: Global,
     test: &Arc<Test>,

@@ -4,12 +4,12 @@ ghost use Rattle.std.specs.Prelude.{◌≡◌, ◌++◌, count_by, IfOk, OnOk, s
 ghost use Rattle.std.specs.List.{list_any};
 ghost use Rattle.fs_app_why.specs.Traces.{overtakes, passed, passing, is_early, is_late, marks_early, places};
 ghost use Rattle.fs_app_why.specs.Traces.{place_at, early_text, late_text, mark_text};
-ghost use Rattle.fs_app_why_nearer.specs.Executions.{operation_at};
+ghost use Rattle.fs_app_why.specs.Executions.{operation_at};
 ghost use Rattle.fs_model.specs.Numbers.{is_same};
 
+use crate::instruction_words::and_joined;
+use crate::told_execution::Told;
 use crate::words::place_text;
-use fs_app_why_kinds::and_joined;
-use fs_app_why_nearer::Told;
 use fs_kinds::List;
 use fs_model::{Name, stands_before};
 use std::alloc::{AllocError, Global};

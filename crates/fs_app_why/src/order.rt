@@ -12,7 +12,7 @@ ghost use Rattle.fs_litmus.specs.Reads.{Reads};
 ghost use Rattle.fs_cert_evidence.specs.Shown.{IsShownBy};
 ghost use Rattle.fs_cert_evidence.specs.WitnessFile.{KeepsWitness};
 ghost use Rattle.fs_check.specs.Ordered.{IsOrdered, execution_in};
-ghost use Rattle.fs_app_place_order.specs.Order.{IsFirstOrderFault};
+ghost use Rattle.fs_app_place_and_order.specs.Order.{IsFirstOrderFault};
 ghost use Rattle.fs_app_why.specs.Traces.{trace_text};
 ghost use Rattle.fs_app_why.specs.Why.{IsOrderWhy, TellsGiven, order_heading};
 

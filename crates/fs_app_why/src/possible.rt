@@ -13,7 +13,7 @@ ghost use Rattle.fs_app_why.specs.inner.Told.{TellsExecution};
 ghost use Rattle.fs_app_why.specs.Why.{IsAllowedWhy, IsNoneWhy, IsNotShown};
 
 use crate::order::{lines_of, told_below};
-use fs_app_why_nearer::{file_of, nearer};
+use crate::shown::{file_of, nearer};
 use fs_cert_evidence::{Choices, WitnessFile};
 use fs_kinds::{Fault, List, OperationName, Placement};
 use fs_litmus::{Test, read_test, slots};

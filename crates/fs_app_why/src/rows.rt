@@ -7,14 +7,14 @@ ghost use Rattle.fs_kinds.specs.Limits.{most_locations};
 ghost use Rattle.fs_kinds.specs.ReasonText.{operation_name};
 ghost use Rattle.fs_app_why.specs.Traces.{buffered_text, does_at, does_text, from_text, location_text, row_named};
 ghost use Rattle.fs_app_why.specs.Traces.{row_of, rows, source_text, stores_text};
-ghost use Rattle.fs_app_why_kinds.specs.Words.{line_of};
+ghost use Rattle.fs_app_why.specs.InstructionWords.{line_of};
 ghost use Rattle.fs_model.specs.Numbers.{stands_before};
 
+use crate::instruction_words::line_of;
 use crate::marks::mark_text;
 use crate::table::Row;
+use crate::told_execution::Told;
 use crate::words::word_text;
-use fs_app_why_kinds::line_of;
-use fs_app_why_nearer::Told;
 use fs_instr::{Instr, write_instr};
 use fs_kinds::{List, OperationName};
 use fs_model::{Location, Name, Test, stands_before};

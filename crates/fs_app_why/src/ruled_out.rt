@@ -12,7 +12,7 @@ ghost use Rattle.fs_cert_evidence.specs.Certificate.{Inferred};
 ghost use Rattle.fs_cert_evidence.specs.Inferences.{cycles_of, inference_of};
 ghost use Rattle.fs_cert_evidence.specs.Valid.{Forbid};
 ghost use Rattle.fs_judge.specs.Verdicts.{IsVerdict};
-ghost use Rattle.fs_app_why_kinds.specs.Kinds.{ChainKind as Kinds};
+ghost use Rattle.fs_app_why.specs.Kinds.{ChainKind as Kinds};
 ghost use Rattle.fs_app_why.specs.Contradictions.{contradictions_text};
 ghost use Rattle.fs_app_why.specs.Forbidden.{AreKinds};
 ghost use Rattle.fs_app_why.specs.Why.{HasCandidateFault, IsAllowed, IsForbiddenWhy, TellsForbidden, TellsUnless};
@@ -20,9 +20,10 @@ ghost use Rattle.fs_app_why.specs.Why.{is_written, lacks_written, unwritten_text
 
 use crate::contradictions::contradictions_text;
 use crate::forbidden::inferred_kinds;
+use crate::instruction_words::instr_named;
 use crate::order::lines_of;
 use crate::possible::no_fences;
-use fs_app_why_kinds::{Telling, instr_named};
+use crate::telling::Telling;
 use fs_cert_evidence::{Cycles, Inference};
 use fs_instr::Instr;
 use fs_judge::{Problem, Verdict};
@@ -178,7 +179,7 @@ fn asked_text(
 /// shows it. Where one fence is asked for, and the instruction is no FENCE, a line says so. None where an execution
 /// shows the outcome. The test is judged once more, as `judge_test` of fs_app_test does. The faults are those of
 /// `read_test`, of `Problem::new` and of `Problem::judged`. The cost is that of these three, of `chains` and `kinds_of`
-/// of fs_app_why_kinds, and of `contradictions_text`.
+/// of fs_app_why, and of `contradictions_text`.
 pub fn why_forbidden(alloc: Global, telling: Telling, test: &[u8]) -> Result<Option<String>, Fault>
     ensures some { IfOk result (λ found.
         IfSome found (λ text. IsForbiddenWhy telling test.now (string_bytes text))) }

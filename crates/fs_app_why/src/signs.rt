@@ -1,15 +1,18 @@
 //! What is explained above the contradictions, where one that is told has it.
 
 ghost use Rattle.std.specs.Prelude.{◌≡◌};
-ghost use Rattle.fs_app_why_kinds.specs.Told.{told_chain};
+ghost use Rattle.fs_app_why.specs.Told.{told_chain};
 ghost use Rattle.fs_app_why.specs.Signs.{halves_amo, halves_by, has_sign, has_sign_there, is_cycle, is_told_with};
 ghost use Rattle.fs_app_why.specs.Signs.{lacks_by, lacks_known, lacks_word, some_told};
 
+use crate::arrows::{counts_before, counts_behind, if_amo};
+use crate::chain::{Chain, ChainLink, Shape};
+use crate::fences::Fence;
+use crate::instruction_words::instr_named;
+use crate::kinds::ChainKind;
+use crate::known::Known;
+use crate::telling::{Telling, is_told, told_place};
 use crate::words::{loads, stores};
-use fs_app_why_kinds::{
-    Chain, ChainKind, ChainLink, Fence, Known, Shape, Telling, counts_before, counts_behind,
-    if_amo, instr_named, is_told, told_place,
-};
 use fs_instr::Instr;
 use fs_model::Test;
 

@@ -6,12 +6,12 @@ ghost use Rattle.fs_model_axioms.specs.Final.{AreFinal};
 ghost use Rattle.fs_check.specs.Ordered.{IsOrdered, execution_in, runs_in};
 ghost use Rattle.fs_app_why.specs.Tables.{table_text};
 ghost use Rattle.fs_app_why.specs.Traces.{rows, trace_text};
-ghost use Rattle.fs_app_why_nearer.specs.Executions.{told_of};
+ghost use Rattle.fs_app_why.specs.Executions.{told_of};
 
 use crate::ends::ends_text;
 use crate::rows::rows;
 use crate::table::table_text;
-use fs_app_why_nearer::told_by;
+use crate::told_execution::told_by;
 use fs_check::OrderedCandidate;
 use fs_kinds::List;
 use fs_model::Test;

@@ -11,18 +11,21 @@ ghost use Rattle.fs_model_axioms.specs.Final.{AreFinal};
 ghost use Rattle.fs_cert_evidence.specs.WitnessFile.{KeepsWitness};
 ghost use Rattle.fs_check.specs.Ordered.{IsOrdered, execution_in};
 ghost use Rattle.fs_app_why.specs.Traces.{trace_text};
-ghost use Rattle.fs_app_why_kinds.specs.declared.fences.Fence.TheVariants.{Placed};
-ghost use Rattle.fs_app_why_kinds.specs.Counted.{in_text};
-ghost use Rattle.fs_app_why_kinds.specs.Told.{fence_key};
+ghost use Rattle.fs_app_why.specs.declared.fences.Fence.TheVariants.{Placed};
+ghost use Rattle.fs_app_why.specs.Counted.{in_text};
+ghost use Rattle.fs_app_why.specs.Told.{fence_key};
 ghost use Rattle.fs_app_why.specs.Why.{NoWitnessShows, TellsFences, TellsFirst, TellsWithout, asked, fence_line};
 ghost use Rattle.fs_app_why.specs.Why.{head_text, instr_at, is_passed, named_text};
-ghost use Rattle.fs_app_why_nearer.specs.Weaker.{without_or_with};
+ghost use Rattle.fs_app_why.specs.Weaker.{without_or_with};
 
+use crate::counted::in_text;
+use crate::fences::Fence;
+use crate::first::first_without;
+use crate::instruction_words::{code_of, instr_text, line_of};
+use crate::kinds::ChainKind;
 use crate::order::told_below;
-use fs_app_why_kinds::{
-    ChainKind, Fence, Telling, code_of, fence_key, in_text, instr_text, line_of,
-};
-use fs_app_why_nearer::{first_without, weaker_kinds, without_or_with};
+use crate::telling::{Telling, fence_key};
+use crate::weaker::{weaker_kinds, without_or_with};
 use fs_cert_evidence::WitnessFile;
 use fs_check::OrderedCandidate;
 use fs_kinds::{Entry, Fault, Kind, List, OperationName, Placement, Slot};

@@ -5,7 +5,7 @@ ghost use Rattle.fs_kinds.specs.Limits.{most_locations};
 ghost use Rattle.fs_model.specs.Forms.{is_loading, is_storing};
 ghost use Rattle.fs_app_why.specs.Words.{is_address, word_text, place_text};
 
-use fs_app_why_kinds::line_of;
+use crate::instruction_words::line_of;
 use fs_instr::Instr;
 use fs_kinds::{List, OperationName};
 use fs_model::Location;

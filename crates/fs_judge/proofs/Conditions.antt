@@ -16,7 +16,7 @@ use Rattle.fs_model.specs.Witness.{Witness, IsOfWitness}
 use Rattle.fs_cert_evidence.specs.Candidates.{Candidate, IsRaw}
 use Rattle.fs_cert_evidence.specs.CandidateFaults.{most_candidates, HasTooMany, IsCandidateFault}
 use Rattle.fs_values.specs.ThinAir.{BeginsWithWords, CanBeListed}
-pub use Rattle.fs_region_runs.proofs.Programs.{with_program, Keeps, carried}
+pub use Rattle.fs_region_refutation.proofs.Programs.{with_program, Keeps, carried}
 
 -- what is true with the program of another test is true of that
 pub back : (P : Test → Type 0) → Keeps P → (t u : Test) → P (with_program (program_of t) u) → P t

@@ -4,7 +4,7 @@ use fs_instr::Reg;
 use fs_judge_hunt::{Condition, Node, Part, Row, no_run, nodes, put, words_for};
 use fs_kinds::List;
 use fs_model::{Quantifier, Test};
-use fs_region_runs::Lone;
+use fs_region_refutation::Lone;
 use std::alloc::{AllocError, Global};
 
 fn ending_with(alloc: Global, runs: &[Lone], register: Reg, word: u32) -> Result<Row, AllocError> {

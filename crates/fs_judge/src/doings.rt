@@ -8,7 +8,7 @@ use fs_judge_hunt::{
 };
 use fs_kinds::OperationName;
 use fs_model::Test;
-use fs_region_runs::Lone;
+use fs_region_refutation::Lone;
 use std::alloc::{AllocError, Global};
 
 fn takes_of(test: &Test, name: OperationName) -> Takes {

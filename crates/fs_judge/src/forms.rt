@@ -1,7 +1,7 @@
 //! The forms of a hart's runs.
 
 use fs_judge_hunt::{Form, Outline, no_run, put};
-use fs_region_runs::Lone;
+use fs_region_refutation::Lone;
 use std::alloc::{AllocError, Global};
 
 /// A run with its outline.

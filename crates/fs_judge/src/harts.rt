@@ -9,7 +9,7 @@ use crate::rules::{Asked, no_fence};
 use fs_judge_hunt::{Form, Forwarded, Hart, Numbered, Row, Rule, no_run, put, words_for, written};
 use fs_kinds::{Fault, List, OperationName};
 use fs_model::Test;
-use fs_region_runs::Lone;
+use fs_region_refutation::Lone;
 use std::alloc::{AllocError, Global};
 
 fn all_runs(alloc: Global, words: usize, count: usize) -> Result<Row, AllocError> {

@@ -8,7 +8,7 @@ use crate::harts::harts;
 use fs_judge_hunt::Hunter;
 use fs_kinds::{Fault, List, OperationName};
 use fs_model::Test;
-use fs_region_runs::Lone;
+use fs_region_refutation::Lone;
 use std::alloc::{AllocError, Global};
 
 /// What hunts over the test, with the names of its memory instructions and for each hart all of its runs, in choice

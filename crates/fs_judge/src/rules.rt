@@ -5,7 +5,7 @@ ghost use Rattle.fs_kinds.specs.declared.fault.Fault.TheVariants.{Memory};
 
 use fs_judge_hunt::{Form, Forwarded, Numbered, Row, Rule, has_all, is_empty, join, no_run};
 use fs_kinds::{Fault, OperationName, Placement};
-use fs_region_runs::{Lone, Source, Sourced};
+use fs_region_refutation::{Lone, Source, Sourced};
 use std::alloc::{AllocError, Global};
 
 /// What rules are asked of: runs of one hart, with their forms.

@@ -21,8 +21,8 @@ use Rattle.fs_board.specs.contracts.board.Board as Board
 use Rattle.fs_board.proofs.tree.Tree.TheSendSync as tree
 use Rattle.fs_board.proofs.event.LogEntry.TheSendSync as entry
 use Rattle.fs_kinds.proofs.reason.OperationName.TheSendSync as named
-use Rattle.fs_region_runs.proofs.lone.Made.TheSendSync as made
-use Rattle.fs_region_runs.specs.contracts.lone.Lone as Lone
+use Rattle.fs_region_refutation.proofs.lone.Made.TheSendSync as made
+use Rattle.fs_region_refutation.specs.contracts.lone.Lone as Lone
 use Rattle.fs_region_refutation.specs.contracts.basis.Basis as Basis
 use Rattle.fs_region_refutation.specs.contracts.region.Region as Region
 use Rattle.fs_region_refutation.specs.contracts.region.Wanted as Wanted

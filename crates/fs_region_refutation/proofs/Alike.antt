@@ -14,7 +14,7 @@ use Rattle.fs_model.specs.Preserved.{Rule}
 use Rattle.fs_model.specs.Shows.{final_register}
 use Rattle.fs_cert_evidence.specs.Regions.{Region}
 use Rattle.fs_cert_evidence.specs.Musts.{alone, traces_of, is_rule}
-use Rattle.fs_region_runs.specs.Alone.{RunOf}
+use Rattle.fs_region_refutation.specs.Alone.{RunOf}
 use Rattle.fs_region_refutation.specs.declared.endings.Ending.{Ending}
 use Rattle.fs_region_refutation.specs.Views.{runs_of, AreRunsOf}
 use Rattle.fs_region_refutation.specs.inner.Asked.{is_ordered_in, ends_so}

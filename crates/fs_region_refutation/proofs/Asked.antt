@@ -10,8 +10,8 @@ use Rattle.fs_model.specs.OfTests.{program_of}
 use Rattle.fs_model.specs.Test.{IsBounded}
 use Rattle.fs_model.specs.Values.{AreAllRuns}
 use Rattle.fs_cert_evidence.specs.Regions.{names}
-use Rattle.fs_region_runs.specs.Alone.{RunOf}
-use Rattle.fs_region_runs.proofs.Programs.{carried, Keeps}
+use Rattle.fs_region_refutation.specs.Alone.{RunOf}
+use Rattle.fs_region_refutation.proofs.Programs.{carried, Keeps}
 use Rattle.fs_region_refutation.specs.Runs.{all_asked, asked_of, runs_over, AreOfHart, HasProgramOf, IsBasis}
 use Rattle.fs_region_refutation.proofs.Lists.{map_seen}
 

@@ -17,7 +17,7 @@ use Rattle.fs_cert_evidence.specs.Regions.{Region, names, stored_at}
 use Rattle.fs_cert_evidence.specs.Musts.{must_be, stores_such, may_end}
 use Rattle.fs_cert_evidence.specs.Splits.{with_run}
 use Rattle.fs_region_refutation.specs.declared.endings.Ending.{Ending}
-use Rattle.fs_region_runs.specs.Alone.{RunOf}
+use Rattle.fs_region_refutation.specs.Alone.{RunOf}
 use Rattle.fs_region_refutation.specs.declared.region.Wanted.{Wanted}
 use Rattle.fs_region_refutation.specs.Views.{runs_of, accesses_at, wanted_of, all_wanted}
 use Rattle.fs_region_refutation.specs.inner.Each.{of_hart, of_others, is_last, is_ending, stores_under, ends_with, joins, may_with, may_each, may_all_with, registers_each}

@@ -12,3 +12,14 @@ pub mod Chains
 pub mod Stacks
 pub mod Walked
 mod Joined
+mod Accesses
+mod AskedRuns
+pub mod Columns
+mod Found
+mod ListedRuns
+mod Named
+mod Others
+mod Positions
+pub mod Programs
+mod ReadyRuns
+mod Sources

@@ -15,7 +15,7 @@ use Rattle.fs_values.specs.AllRuns.{HaveFinal, runs_in}
 use Rattle.fs_values.proofs.Contained.{in_map}
 use Rattle.fs_cert_evidence.specs.Regions.{names}
 use Rattle.fs_cert_evidence.specs.Trees.{AreItsRuns}
-use Rattle.fs_region_runs.specs.Alone.{RunOf, IsRun}
+use Rattle.fs_region_refutation.specs.Alone.{RunOf, IsRun}
 use Rattle.fs_region_refutation.specs.Runs.{runs_over, lone_of, AreOfHart, AreOfEach, AreRunsOfEach, AreReady, IsBasis}
 use Rattle.fs_region_refutation.proofs.Lists.{map_seen}
 

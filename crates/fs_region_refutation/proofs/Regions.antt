@@ -14,7 +14,7 @@ use Rattle.fs_model.specs.declared.step.Step.{Step}
 use Rattle.fs_model.specs.Condition.{Condition}
 use Rattle.fs_cert_evidence.specs.Regions.{Region, Source, same_name}
 use Rattle.fs_cert_evidence.specs.Splits.{keep, with_source, with_order, with_wanted}
-use Rattle.fs_region_runs.specs.Alone.{RunOf, source_of}
+use Rattle.fs_region_refutation.specs.Alone.{RunOf, source_of}
 use Rattle.fs_region_refutation.specs.declared.region.Sourced.{Sourced}
 use Rattle.fs_region_refutation.specs.declared.region.Region.{Region as CodeRegion}
 use Rattle.fs_region_refutation.specs.Views.{region_of, runs_of, at_hart, list_at, lists_in, source_in, source_after, is_in_order, all_wanted, with_runs, Shares, IsOf, AreRunsOf}

@@ -8,7 +8,7 @@ use Rattle.fs_model.specs.declared.test.Test.{Test}
 use Rattle.fs_model.specs.Condition.{condition_of}
 use Rattle.fs_model.specs.Shows.{is_outcome}
 use Rattle.fs_cert_evidence.specs.Trees.{root}
-use Rattle.fs_region_runs.specs.Alone.{RunOf}
+use Rattle.fs_region_refutation.specs.Alone.{RunOf}
 use Rattle.fs_region_refutation.specs.declared.region.Region.{Region as CodeRegion}
 use Rattle.fs_region_refutation.specs.Runs.{runs_over, AreOfHart, AreOfEach}
 use Rattle.fs_region_refutation.specs.Views.{region_of, runs_of, at_hart, lists_in, source_in, is_in_order, all_wanted, AreRunsOf}

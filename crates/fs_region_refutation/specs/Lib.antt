@@ -3,3 +3,5 @@ pub mod Runs
 pub mod Subtrees
 pub mod Views
 pub mod inner
+pub mod Alone
+pub mod Beside

@@ -8,8 +8,8 @@ use Rattle.fs_model.specs.Preserved.{Rule}
 use Rattle.fs_ppo.specs.Rules.{number_of as number_of_rule}
 use Rattle.fs_cert_evidence.specs.Regions.{Region}
 use Rattle.fs_cert_evidence.specs.Musts.{alone, is_rule}
-use Rattle.fs_region_runs.specs.declared.source.Sourced.{Sourced}
-use Rattle.fs_region_runs.specs.Alone.{RunOf, Knows}
+use Rattle.fs_region_refutation.specs.declared.source.Sourced.{Sourced}
+use Rattle.fs_region_refutation.specs.Alone.{RunOf, Knows}
 use Rattle.fs_region_refutation.specs.Views.{runs_of, AreRunsOf}
 
 -- whether the rule of this number orders the two in each of the runs

@@ -9,7 +9,7 @@ use Rattle.fs_model.specs.Test.{IsBounded}
 use Rattle.fs_hart.specs.declared.trace.Trace.{Trace}
 use Rattle.fs_cert_evidence.specs.Regions.{Region, names}
 use Rattle.fs_cert_evidence.specs.Trees.{AreItsRuns, root, roots}
-use Rattle.fs_region_runs.specs.Alone.{RunOf, IsRun}
+use Rattle.fs_region_refutation.specs.Alone.{RunOf, IsRun}
 
 -- ---- lists for each hart
 

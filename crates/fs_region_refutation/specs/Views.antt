@@ -11,8 +11,8 @@ use Rattle.fs_model.specs.Condition.{Condition, condition_of}
 use Rattle.fs_model.specs.Numbers.{is_same}
 use Rattle.fs_model.specs.Test.{address_of}
 use Rattle.fs_cert_evidence.specs.Regions.{Region, Source, same_name, address_at, loaded_at, stored_at}
-use Rattle.fs_region_runs.specs.declared.source.Source.{Source as CodeSource}
-use Rattle.fs_region_runs.specs.Alone.{RunOf, source_of}
+use Rattle.fs_region_refutation.specs.declared.source.Source.{Source as CodeSource}
+use Rattle.fs_region_refutation.specs.Alone.{RunOf, source_of}
 use Rattle.fs_region_refutation.specs.declared.musts.Access.{Access}
 use Rattle.fs_region_refutation.specs.declared.musts.Access.TheVariants.{Load, Store}
 use Rattle.fs_region_refutation.specs.declared.region.Sourced.{Sourced}

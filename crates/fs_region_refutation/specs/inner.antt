@@ -3,3 +3,5 @@ pub mod Asked
 pub mod Each
 pub mod Pairs
 pub mod Stacks
+pub mod Ordered
+pub mod Tables

@@ -11,10 +11,11 @@ ghost use Rattle.fs_cert_evidence.specs.Trees.{AreItsRuns};
 ghost use Rattle.fs_values.specs.ThinAir.{CanBeListed};
 ghost use Rattle.fs_region_refutation.specs.Runs.{runs_over, AreOfEach};
 
+use crate::lone::Lone;
+use crate::naming::names;
 use crate::ready::{all_asked, all_ready};
 use fs_kinds::{Fault, List, OperationName};
 use fs_model::Test;
-use fs_region_runs::{Lone, names};
 use fs_values::all_runs;
 use std::alloc::{AllocError, Global};
 use std::marker::Model;

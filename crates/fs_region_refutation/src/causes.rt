@@ -8,13 +8,13 @@ ghost use Rattle.fs_cert_evidence.specs.Judged.{Preserved};
 ghost use Rattle.fs_cert_evidence.specs.Evidence.{cause_of};
 ghost use Rattle.fs_cert_evidence.specs.Regions.{Region as SpecRegion, From};
 ghost use Rattle.fs_cert_evidence.specs.Musts.{knows_enough, has_source, must};
-ghost use Rattle.fs_region_runs.specs.Alone.{Knows};
+ghost use Rattle.fs_region_refutation.specs.Alone.{Knows};
 ghost use Rattle.fs_region_refutation.specs.Views.{region_of, known_source, IsOf};
 
+use crate::source::{Source, Sourced};
 use crate::{Basis, Region, all_order, is_same_name, overwrites};
 use fs_cert_evidence::Cause;
 use fs_kinds::{OperationName, Placement};
-use fs_region_runs::{Source, Sourced};
 
 /// What is known of the source of the operation.
 fn sourced(region: &Region<'_>, name: OperationName) -> Sourced

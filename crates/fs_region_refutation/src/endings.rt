@@ -15,13 +15,13 @@ ghost use Rattle.fs_region_refutation.specs.inner.Each.{may_all_with, registers_
 
 use crate::basis::Basis;
 use crate::filters::is_same;
+use crate::lone::Lone;
 use crate::musts::{Access, accesses, must_be};
 use crate::parted::{Names, parted_names};
 use crate::region::Region;
 use fs_instr::Reg;
 use fs_kinds::OperationName;
 use fs_model::{Location, Outcome};
-use fs_region_runs::Lone;
 use std::alloc::{AllocError, Global};
 
 // A word, and whether something is to end with it.

@@ -11,11 +11,11 @@ ghost use Rattle.fs_region_refutation.specs.Views.{runs_of};
 ghost use Rattle.fs_region_refutation.specs.inner.Pairs.{both, pair_at, pairs_of, is_among, by_pair};
 
 use crate::basis::Basis;
+use crate::lone::Lone;
 use crate::musts::{Access, accessed};
 use crate::region::Runs;
 use fs_kinds::{List, OperationName};
 use fs_model::Location;
-use fs_region_runs::Lone;
 use std::alloc::{AllocError, Global};
 
 /// Those that make the choice of this number at the position.

@@ -10,10 +10,11 @@ ghost use Rattle.fs_region_refutation.specs.inner.Asked.{PairsAll};
 
 use crate::basis::Basis;
 use crate::filters::is_same;
+use crate::lone::Lone;
 use crate::region::Region;
+use crate::source::{Source, Sourced};
 use fs_kinds::{OperationName, Placement};
 use fs_model::Location;
-use fs_region_runs::{Lone, Source, Sourced};
 
 /// How an operation accesses memory.
 #[derive(Clone, Copy)]

@@ -8,10 +8,10 @@ ghost use Rattle.fs_region_refutation.specs.inner.Each.{is_last, IsParted, AreNa
 ghost use Rattle.fs_region_refutation.specs.inner.Each.{stores_there, own_are_quiet, others_are_quiet, AreMarks};
 
 use crate::basis::Basis;
+use crate::lone::Lone;
 use crate::musts::{Access, accesses};
 use crate::region::Region;
 use fs_kinds::{List, OperationName};
-use fs_region_runs::Lone;
 use std::alloc::{AllocError, Global};
 
 // Names of one hart, and those of the others.

@@ -5,14 +5,15 @@ ghost use Rattle.std.specs.Arc.{arc_value};
 ghost use Rattle.std.specs.List.{slice_index_or};
 ghost use Rattle.fs_kinds.specs.declared.fault.Fault.TheVariants.{Memory};
 ghost use Rattle.fs_model.specs.Test.{IsBounded};
-ghost use Rattle.fs_region_runs.specs.Alone.{IsRun};
-ghost use Rattle.fs_region_runs.specs.Beside.{IsBeside};
+ghost use Rattle.fs_region_refutation.specs.Alone.{IsRun};
+ghost use Rattle.fs_region_refutation.specs.Beside.{IsBeside};
 ghost use Rattle.fs_region_refutation.specs.Runs.{all_asked, asked_of, lone_of, AreReady, AreRunsOfEach, HasProgramOf};
 
+use crate::doings::Doings;
+use crate::lone::Lone;
 use fs_hart::{Steps, Trace};
 use fs_kinds::{Fault, List};
 use fs_model::Test;
-use fs_region_runs::{Doings, Lone};
 use std::alloc::{AllocError, Global};
 use std::sync::Arc;
 

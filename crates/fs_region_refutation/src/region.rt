@@ -4,14 +4,15 @@ ghost use Rattle.std.specs.Prelude.{◌≡◌, ◌≢◌, ◌≤◌, ◌<◌, �
 ghost use Rattle.fs_kinds.specs.declared.reason.OperationName.{OperationName as Name};
 ghost use Rattle.fs_model.specs.declared.test.Test.{Test};
 ghost use Rattle.fs_cert_evidence.specs.Splits.{with_source, with_order, with_wanted};
-ghost use Rattle.fs_region_runs.specs.Alone.{source_of};
+ghost use Rattle.fs_region_refutation.specs.Alone.{source_of};
 ghost use Rattle.fs_region_refutation.specs.Views.{region_of, known_source, runs_of, all_wanted, with_runs, source_in};
 ghost use Rattle.fs_region_refutation.specs.Views.{Shares, source_after, lists_in, list_at, IsOf, AreRunsOf};
 
+use crate::lone::Lone;
 use crate::musts::is_same_name;
+use crate::source::Source;
 use fs_kinds::{List, OperationName};
 use fs_model::Outcome;
-use fs_region_runs::{Lone, Source};
 use std::alloc::{AllocError, Global};
 use std::sync::Arc;
 

@@ -8,10 +8,10 @@ ghost use Rattle.fs_region_refutation.specs.Views.{region_of, regions_of, lists_
 ghost use Rattle.fs_region_refutation.specs.inner.Asked.{values_in};
 
 use crate::basis::Basis;
+use crate::lone::Lone;
 use crate::region::{Region, Runs, Wanted};
 use crate::splits::add_open;
 use fs_kinds::List;
-use fs_region_runs::Lone;
 use std::alloc::{AllocError, Global};
 use std::sync::Arc;
 

@@ -11,7 +11,7 @@ ghost use Rattle.fs_cert_evidence.specs.Splits.{keep, agree, chosen_at, rising, 
 ghost use Rattle.fs_cert_evidence.specs.Splits.{from_nothing, from_source, is_left, can_be_source, sources_for};
 ghost use Rattle.fs_cert_evidence.specs.Splits.{by_source, by_order, ways, ways_of, by_cases, by_outcome, with_source};
 ghost use Rattle.fs_cert_evidence.specs.Trees.{is_open};
-ghost use Rattle.fs_region_runs.specs.Alone.{source_of};
+ghost use Rattle.fs_region_refutation.specs.Alone.{source_of};
 ghost use Rattle.fs_region_refutation.specs.Views.{region_of, regions_of, all_wanted, list_at, runs_of, known_source};
 ghost use Rattle.fs_region_refutation.specs.Views.{IsOf, AreOf};
 
@@ -20,11 +20,12 @@ use crate::endings::may_all_each;
 use crate::filters::{
     agreeing_alone, agreeing_loads, agreeing_stores, choosing, loading_initial, not_loading,
 };
+use crate::lone::Lone;
 use crate::musts::is_same_name;
 use crate::region::{Region, Runs, Wanted};
+use crate::source::Source;
 use fs_kinds::{List, OperationName};
 use fs_model::Outcome;
-use fs_region_runs::{Lone, Source};
 use std::alloc::{AllocError, Global};
 
 /// The region with these of the hart's runs.

@@ -17,6 +17,7 @@ ghost use Rattle.fs_region_refutation.specs.Views.{region_of, regions_of, IsOf, 
 ghost use Rattle.fs_region_refutation.specs.inner.Stacks.{stacked};
 
 use crate::causes::must;
+use crate::naming::is_name;
 use crate::{
     Access, Basis, Region, by_cases, by_choice, by_order, by_outcome, by_source, has_cases,
     is_before_source, is_same_name, must_meet, must_pair, overwrites, roots,
@@ -24,7 +25,6 @@ use crate::{
 use fs_cert_evidence::{Inference, Link};
 use fs_kinds::{Fault, OperationName, Placement, Reason};
 use fs_model::Quantifier;
-use fs_region_runs::is_name;
 use std::alloc::{AllocError, Global};
 
 // The greatest number of links of a cycle.

@@ -1,1 +1,4 @@
 pub mod Faults
+pub mod Asked
+pub mod Crosses
+pub mod Outcomes

@@ -1,8 +1,8 @@
 //! The places that the conditions of tests name.
 ghost use Rattle.std.specs.Prelude.{IfOk, OnOk};
-ghost use Rattle.fs_judge_final_states.specs.States.{ArePlacesOf};
+ghost use Rattle.fs_judge_outcomes.specs.States.{ArePlacesOf};
 
-use fs_judge_final_states::Place;
+use fs_judge_outcomes::Place;
 use fs_litmus::Test;
 use fs_model::Outcome;
 use std::alloc::{AllocError, Global};

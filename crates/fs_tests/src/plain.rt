@@ -11,7 +11,7 @@ use crate::places::places_of;
 use fs_cand::Traces;
 use fs_hart::{Operation, Steps, Trace, operations};
 use fs_instr::Reg;
-use fs_judge_final_states::{Place, State, states};
+use fs_judge_outcomes::{Place, State, states};
 use fs_kinds::{Fault, List, Placement};
 use fs_litmus::{Test, read_test};
 use fs_model::Location;

@@ -9,7 +9,7 @@ use fs_hart::{Run, trace_of};
 use fs_instr::Reg;
 use fs_kinds::{Fault, Limit, OperationName, Placement};
 use fs_litmus::{Test, read_test};
-use fs_region_runs::{Doings, Lone, Source, Sourced, names};
+use fs_region_refutation::{Doings, Lone, Source, Sourced, names};
 use fs_tests_shared::{ANNOTATED, CO_RR, FORWARDED, LRSC, MPA, SB, placement_of, told};
 use std::alloc::{AllocError, Global};
 use std::sync::Arc;

@@ -9,7 +9,7 @@ ghost use Rattle.fs_model.specs.Test.{IsTest};
 use crate::places::places_of;
 use crate::states_texts::{ADDED, ASTRAY, BRANCH, LAST, TRUE, TWICE};
 use crate::wrong::add_wrong;
-use fs_judge_final_states::{State, states};
+use fs_judge_outcomes::{State, states};
 use fs_kinds::{Fault, Placement};
 use fs_litmus::{Test, read_test};
 use fs_tests_shared::{CO_RR, LB, LRSC, MP, SB, TWO_WRITES, placement_of, told};

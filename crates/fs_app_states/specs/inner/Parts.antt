@@ -2,8 +2,8 @@
 use Rattle.std.specs.Prelude.{◌≡◌, ℕ, List, All}
 use Rattle.fs_kinds.specs.declared.placement.Entry.{Entry}
 use Rattle.fs_model.specs.declared.test.Test.{Test}
-use Rattle.fs_judge_final_states.specs.declared.state.State.{State}
-use Rattle.fs_judge_final_states.specs.States.{AreStates, IsShownState, words_of}
+use Rattle.fs_judge_outcomes.specs.declared.state.State.{State}
+use Rattle.fs_judge_outcomes.specs.States.{AreStates, IsShownState, words_of}
 use Rattle.fs_app_states.specs.declared.asked.Shown.{Shown}
 use Rattle.fs_app_states.specs.declared.columns.Column.{Column}
 use Rattle.fs_model.specs.Condition.{condition_of}

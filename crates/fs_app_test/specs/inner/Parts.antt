@@ -1,7 +1,7 @@
 -- What is asked of one run.
 use Rattle.std.specs.Prelude.{ℕ, ◌==◌, Bool}
 use Rattle.fs_model.specs.Shows.{final_register}
-use Rattle.fs_region_runs.specs.Alone.{RunOf}
+use Rattle.fs_region_refutation.specs.Alone.{RunOf}
 use Rattle.fs_cert_evidence.specs.Musts.{traces_of}
 
 -- the run ends with the word in the register of its hart

@@ -4,7 +4,7 @@ use Rattle.fs_kinds.specs.declared.placement.Entry.{Entry}
 use Rattle.fs_model.specs.declared.test.Test.{Test}
 use Rattle.fs_model.specs.Execution.{Execution}
 use Rattle.fs_model.specs.Witness.{Witness}
-use Rattle.fs_app_why_nearer.specs.Reordered.{IsToldOf}
+use Rattle.fs_app_why.specs.Reordered.{IsToldOf}
 use Rattle.fs_app_why.specs.Traces.{trace_text}
 
 -- the text is this heading, and below it an execution of the witness, which shows the outcome with these fences

@@ -12,7 +12,7 @@ use Rattle.fs_model.specs.Preserved.{Rule, Rule8}
 use Rattle.fs_model.specs.Shows.{final_register}
 use Rattle.fs_cert_evidence.specs.Regions.{Region, address_at, loaded_at}
 use Rattle.fs_cert_evidence.specs.Musts.{alone, traces_of, is_rule, has_truth}
-use Rattle.fs_region_runs.specs.Alone.{RunOf, execution_of}
+use Rattle.fs_region_refutation.specs.Alone.{RunOf, execution_of}
 use Rattle.fs_region_refutation.specs.declared.endings.Ending.{Ending}
 use Rattle.fs_region_refutation.specs.Views.{runs_of, AreRunsOf}
 

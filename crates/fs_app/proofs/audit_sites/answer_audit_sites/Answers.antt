@@ -1,5 +1,5 @@
 use Rattle.std.proofs.Common.{string_bytes, subst}
-use Rattle.fs_app_sites_audit.specs.Audited.{IsAudited}
+use Rattle.fs_app_sites_check_and_audit.specs.Audited.{IsAudited}
 use Rattle.fs_app.specs.Answers.{audited}
 use Rattle.fs_app.proofs.audit_sites.answer_audit_sites.Goals as goal
 

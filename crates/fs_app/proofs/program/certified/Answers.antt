@@ -1,6 +1,6 @@
 use Rattle.std.proofs.Common.{◌≡◌, ℕ, List, IfOk, None, refl, rules, string_bytes, subst, sym}
-use Rattle.fs_app_solve.specs.Found.{lines_of}
-use Rattle.fs_app_solve.specs.Solve.{IsCertified}
+use Rattle.fs_app_solve_and_check.specs.Found.{lines_of}
+use Rattle.fs_app_solve_and_check.specs.Solve.{IsCertified}
 use Rattle.fs_app.specs.Answers.{IsSolvedAndTold, IsSolvedIn}
 use Rattle.fs_app.specs.Telling.{telling_of}
 use Rattle.fs_app.proofs.Told.{solved_alone}

@@ -1,8 +1,8 @@
 use Rattle.std.proofs.Common.{rules, ◌≡◌, refl, sym, ap, subst, true, false, string_bytes, ◌∙◌}
 use Rattle.fs_report.specs.Objects.{json_line}
-use Rattle.fs_app_solve.specs.Found.{Prints, lines_of, value_of}
-use Rattle.fs_app_solve.specs.Solve.{IsSolved}
-use Rattle.fs_app_solve.proofs.Founding.{one-answer}
+use Rattle.fs_app_solve_and_check.specs.Found.{Prints, lines_of, value_of}
+use Rattle.fs_app_solve_and_check.specs.Solve.{IsSolved}
+use Rattle.fs_app_solve_and_check.proofs.Founding.{one-answer}
 use Rattle.fs_app.specs.Answers.{in_form}
 use Rattle.fs_app.proofs.program.printed.Goals as goal
 

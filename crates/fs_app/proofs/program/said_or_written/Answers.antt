@@ -1,6 +1,6 @@
 use Rattle.std.proofs.Common.{IfSome, List, refl, rules, string_bytes, subst, sym, ℕ}
 use Rattle.std.specs.Arc.{arc_value}
-use Rattle.fs_app_solve.specs.Found.{IsFound}
+use Rattle.fs_app_solve_and_check.specs.Found.{IsFound}
 use Rattle.fs_app.specs.Answers.{IsFencedFile, written}
 use Rattle.fs_app.proofs.program.said_or_written.Goals as goal
 

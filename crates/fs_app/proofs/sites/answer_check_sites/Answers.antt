@@ -1,5 +1,5 @@
 use Rattle.std.proofs.Common.{rules, string_bytes, subst, sym}
-use Rattle.fs_app_sites_check.specs.Checked.{IsSitesChecked}
+use Rattle.fs_app_sites_check_and_audit.specs.Checked.{IsSitesChecked}
 use Rattle.fs_app.specs.Answers.{checked}
 use Rattle.fs_app.proofs.sites.answer_check_sites.Goals as goal
 

@@ -1,7 +1,7 @@
 use Rattle.std.proofs.Common.{◌≡◌, ◌∙◌, ◌+◌, ◌<◌, [], ◌∷◌, ◌++◌, ap, arith, length, map, string_bytes, subst, sym, take}
 use Rattle.std.specs.List.{slice_index_or}
 use Rattle.std.proofs.lemmas.List.{length-take-le, take_more}
-use Rattle.fs_app_files.specs.Judging.{IsJudged}
+use Rattle.fs_app_test.specs.Judging.{IsJudged}
 use Rattle.fs_app.specs.Telling.{AreTold, IsTestTold}
 use Rattle.fs_app.proofs.Told.{at_place, one_more}
 use Rattle.fs_app.proofs.telling.all_told.Goals as goal

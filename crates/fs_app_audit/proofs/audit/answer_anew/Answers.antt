@@ -1,5 +1,5 @@
 use Rattle.std.proofs.Common.{◌∙◌}
-use Rattle.fs_app_place_order.proofs.Faults.{IfErr-handed}
+use Rattle.fs_app_place_and_order.proofs.Faults.{IfErr-handed}
 use Rattle.fs_app_audit.specs.Audit.{of_allowed, of_memory}
 use Rattle.fs_app_audit.specs.inner.Made.{findings_of}
 use Rattle.fs_app_audit.proofs.audit.answer_anew.Goals as goal

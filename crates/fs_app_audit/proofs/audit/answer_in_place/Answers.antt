@@ -6,7 +6,7 @@ use Rattle.fs_model.specs.Test.{IsSame}
 use Rattle.fs_board_offers.specs.Offers.{Offers, IsCheapest}
 use Rattle.fs_litmus.specs.Reads.{Reads}
 use Rattle.fs_model_laws.specs.InPlace.{emptied}
-use Rattle.fs_app_place_order.proofs.Faults.{IfErr-handed}
+use Rattle.fs_app_place_and_order.proofs.Faults.{IfErr-handed}
 use Rattle.fs_app_test.specs.declared.said.Kind.TheVariants.{Forbidden}
 use Rattle.fs_app_test.specs.SaidVerdicts.{IsForbidden}
 use Rattle.fs_app_audit.specs.Audit.{IsTested, of_anew, of_forbidden, of_memory}

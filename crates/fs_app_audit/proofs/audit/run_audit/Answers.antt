@@ -1,5 +1,5 @@
 use Rattle.std.proofs.lemmas.Result.{IfErr-weaker, IfOk-weaker}
-use Rattle.fs_app_place_order.proofs.Faults.{IfErr-handed, IsPricesFault-read}
+use Rattle.fs_app_place_and_order.proofs.Faults.{IfErr-handed, IsPricesFault-read}
 use Rattle.fs_app_audit.specs.Audit.{of_anew}
 use Rattle.fs_app_audit.specs.declared.asked.Purpose.TheVariants.{Advise}
 use Rattle.fs_app_audit.proofs.FirstFaults.{audit-prices, audit-test, audit-written}

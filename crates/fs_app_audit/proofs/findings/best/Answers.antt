@@ -7,7 +7,7 @@ use Rattle.fs_app_audit.specs.Priced.{Priced}
 use Rattle.fs_cert_evidence.specs.Sizes.{HasNoRunFault}
 use Rattle.fs_board_search.specs.Priced.{question_of}
 use Rattle.fs_board_search.proofs.PricedAnswers.{priced-fault}
-use Rattle.fs_app_place_order.proofs.Faults.{IfErr-handed}
+use Rattle.fs_app_place_and_order.proofs.Faults.{IfErr-handed}
 use Rattle.fs_app_audit.proofs.Searched.{asked-best, asked-slots, asked-test}
 use Rattle.fs_app_audit.proofs.findings.best.Goals as goal
 

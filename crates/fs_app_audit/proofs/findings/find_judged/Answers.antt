@@ -3,7 +3,7 @@ use Rattle.std.specs.Arc.{arc_value}
 use Rattle.fs_kinds.specs.declared.fault.Fault.TheVariants.{Memory}
 use Rattle.fs_kinds.specs.PriceTable.{PriceTable}
 use Rattle.fs_cert_evidence.specs.Sizes.{IsUnanswered}
-use Rattle.fs_app_place_order.proofs.Faults.{IfErr-handed}
+use Rattle.fs_app_place_and_order.proofs.Faults.{IfErr-handed}
 use Rattle.fs_app_audit.proofs.Chosen.{placement-advised}
 use Rattle.fs_app_audit.proofs.FirstFaults.{audit-memory, audit-search, audit-test}
 use Rattle.fs_app_audit.proofs.findings.find_judged.Goals as goal

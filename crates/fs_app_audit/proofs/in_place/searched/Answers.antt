@@ -1,7 +1,7 @@
 use Rattle.std.proofs.Common.{inr, subst}
 use Rattle.fs_model.specs.Test.{IsBounded}
 use Rattle.fs_cert_evidence.specs.Sizes.{HasNoRunFault}
-use Rattle.fs_app_place_order.proofs.Faults.{IfErr-handed}
+use Rattle.fs_app_place_and_order.proofs.Faults.{IfErr-handed}
 use Rattle.fs_app_audit.proofs.in_place.searched.Goals as goal
 
 pub returns-in_err-problem-clause-err : goal.returns-in_err-problem-clause-err

@@ -1,5 +1,5 @@
 use Rattle.std.proofs.Common.{rules}
-use Rattle.fs_app_place_order.proofs.Faults.{IfErr-handed}
+use Rattle.fs_app_place_and_order.proofs.Faults.{IfErr-handed}
 use Rattle.std.specs.Arc.{arc_value}
 use Rattle.fs_app_test.specs.declared.said.Kind.TheVariants.{Forbidden}
 use Rattle.fs_app_audit.specs.Audit.{of_anew, of_file}

@@ -1,4 +1,4 @@
-use Rattle.fs_app_place_order.proofs.Faults.{IfErr-handed}
+use Rattle.fs_app_place_and_order.proofs.Faults.{IfErr-handed}
 use Rattle.fs_app_audit.specs.Audit.{of_anew, of_printed}
 use Rattle.fs_app_audit.specs.inner.Made.{findings_of}
 use Rattle.fs_app_audit.specs.declared.asked.Purpose.TheVariants.{Write}

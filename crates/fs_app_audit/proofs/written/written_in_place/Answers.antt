@@ -1,6 +1,6 @@
 use Rattle.std.proofs.Common.{subst, sym}
 use Rattle.fs_model.specs.declared.test.Test.{Test}
-use Rattle.fs_app_place_order.proofs.Faults.{IfErr-handed}
+use Rattle.fs_app_place_and_order.proofs.Faults.{IfErr-handed}
 use Rattle.fs_app_test.specs.declared.said.Kind.TheVariants.{Forbidden}
 use Rattle.fs_app_test.specs.SaidVerdicts.{IsTestedAs}
 use Rattle.fs_app_audit.proofs.written.written_in_place.Goals as goal

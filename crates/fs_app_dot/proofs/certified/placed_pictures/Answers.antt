@@ -4,7 +4,7 @@ use Rattle.std.specs.List.{AllZip}
 use Rattle.std.proofs.lemmas.Result.{IfOk-weaker}
 use Rattle.fs_model.specs.declared.test.Test.{Test}
 use Rattle.fs_model.specs.Test.{IsTest}
-use Rattle.fs_app_why_kinds.specs.Kinds.{ChainKind}
+use Rattle.fs_app_why.specs.Kinds.{ChainKind}
 use Rattle.fs_cert_evidence.specs.WitnessFile.{KeepsWitness}
 use Rattle.fs_app_why.specs.Forbidden.{AreKinds}
 use Rattle.fs_app_why.proofs.Faults.{memory_or}

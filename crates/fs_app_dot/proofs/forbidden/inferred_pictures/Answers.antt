@@ -1,6 +1,6 @@
 use Rattle.std.proofs.Common.{List, subst}
 use Rattle.fs_model.specs.declared.test.Test.{Test}
-use Rattle.fs_app_why_kinds.specs.Kinds.{ChainKind}
+use Rattle.fs_app_why.specs.Kinds.{ChainKind}
 use Rattle.fs_app_dot.specs.Kinds.{AreOfKinds}
 use Rattle.fs_app_dot.proofs.forbidden.inferred_pictures.Goals as goal
 

@@ -1,5 +1,5 @@
 use Rattle.std.specs.Arc.{arc_value}
-use Rattle.fs_app_place_order.proofs.Faults.{IfErr-handed}
+use Rattle.fs_app_place_and_order.proofs.Faults.{IfErr-handed}
 use Rattle.fs_app_why.proofs.Faults.{run_is_candidate}
 use Rattle.fs_app_dot.proofs.forbidden.judged_pictures.Goals as goal
 

@@ -1,5 +1,5 @@
 use Rattle.std.proofs.Common.{◌≡◌, ◌∙◌, ◌+◌, None, Option, Some, ap, option_copied, refl, subst, sym}
-use Rattle.fs_app_why_kinds.specs.declared.chain.Chain.{Chain}
+use Rattle.fs_app_why.specs.declared.chain.Chain.{Chain}
 use Rattle.fs_app_dot.specs.Kinds.{IsOfChain, told_there}
 use Rattle.fs_app_dot.proofs.kinds.numbered_picture.Goals as goal
 

@@ -2,9 +2,9 @@ use Rattle.std.proofs.Common.{Err, ap, length, subst}
 use Rattle.std.proofs.lemmas.Result.{IfOk-weaker}
 use Rattle.fs_model.specs.Witness.{Witness}
 use Rattle.fs_cert_evidence.specs.WitnessFile.{IsWitnessFile}
-use Rattle.fs_app_place_order.specs.Order.{of_memory}
-use Rattle.fs_app_place_order.proofs.Faults.{IfErr-handed}
-use Rattle.fs_app_place_order.proofs.OrderFaults.{order-fences, order-memory, order-test, order-witness}
+use Rattle.fs_app_place_and_order.specs.Order.{of_memory}
+use Rattle.fs_app_place_and_order.proofs.Faults.{IfErr-handed}
+use Rattle.fs_app_place_and_order.proofs.OrderFaults.{order-fences, order-memory, order-test, order-witness}
 use Rattle.fs_app_why.proofs.Faults.{memory_is}
 use Rattle.fs_app_dot.proofs.order.order_pictures.Goals as goal
 

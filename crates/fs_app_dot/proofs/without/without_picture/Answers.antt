@@ -1,7 +1,7 @@
 use Rattle.std.proofs.Common.{IfNone, IfSome, None, subst}
 use Rattle.fs_kinds.specs.Placement.{with_kind}
 use Rattle.fs_check.specs.Ordered.{execution_in}
-use Rattle.fs_app_why_nearer.specs.First.{IsOfFirst, NoneShows}
+use Rattle.fs_app_why.specs.First.{IsOfFirst, NoneShows}
 use Rattle.fs_app_why.proofs.Certified.{first_told, no_witness_shows}
 use Rattle.fs_app_dot.proofs.without.without_picture.Goals as goal
 

@@ -1,6 +1,6 @@
 use Rattle.std.specs.List.{AllWithin}
 use Rattle.fs_model.specs.Trace.{start_with}
-use Rattle.fs_model_wider_forms.specs.Wide.{AreExact}
+use Rattle.fs_app_plain.specs.Wide.{AreExact}
 use Rattle.fs_app_plain.proofs.words.inexact_among.Given as goal
 
 -- the runs so far are exact

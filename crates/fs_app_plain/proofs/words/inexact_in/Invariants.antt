@@ -1,6 +1,6 @@
 use Rattle.std.proofs.Common.{drop}
 use Rattle.fs_model.specs.Trace.{start_with}
-use Rattle.fs_model_wider_forms.specs.Wide.{AreExact}
+use Rattle.fs_app_plain.specs.Wide.{AreExact}
 use Rattle.fs_app_plain.proofs.words.inexact_in.Given as goal
 
 -- the run is exact if what is left of it is

@@ -1,5 +1,5 @@
 use Rattle.std.proofs.Common.{subst}
-use Rattle.fs_app_place_order.proofs.Faults.{IfErr-handed}
+use Rattle.fs_app_place_and_order.proofs.Faults.{IfErr-handed}
 use Rattle.fs_app_sites.specs.Sites.{IsFileFault}
 use Rattle.fs_app_sites.proofs.ask.content_of.Goals as goal
 

@@ -1,7 +1,7 @@
 use Rattle.std.proofs.Common.{arith, subst, sym, List}
 use Rattle.std.specs.List.{All, AllZip}
 use Rattle.std.proofs.lemmas.List.Elements.{All-push}
-use Rattle.fs_app_place_order.proofs.Faults.{IfErr-handed}
+use Rattle.fs_app_place_and_order.proofs.Faults.{IfErr-handed}
 use Rattle.fs_app_sites.specs.Sites.{Content, IsContentOf, IsSound}
 use Rattle.fs_app_sites.proofs.Reading.{later-fault, own-fault, read-more}
 use Rattle.fs_app_sites.proofs.ask.read_contents.Goals as goal

@@ -1,6 +1,6 @@
 use Rattle.std.proofs.Common.{map, string_bytes}
 use Rattle.std.proofs.lemmas.Result.{IfErr-weaker}
-use Rattle.fs_app_place_order.proofs.Faults.{IfErr-handed}
+use Rattle.fs_app_place_and_order.proofs.Faults.{IfErr-handed}
 use Rattle.fs_app_sites.proofs.Combined.{if-both}
 use Rattle.fs_app_sites.proofs.Faults.{asked-files, asked-prices, asked-sites}
 use Rattle.fs_app_sites.proofs.Reading.{is-asked}

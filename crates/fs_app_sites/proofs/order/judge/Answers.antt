@@ -1,6 +1,6 @@
 use Rattle.std.proofs.Common.{Err, ap, map, string_bytes, subst, sym}
 use Rattle.std.proofs.lemmas.Result.{IfErr-weaker, IfOk-weaker}
-use Rattle.fs_app_place_order.proofs.Faults.{IfErr-handed}
+use Rattle.fs_app_place_and_order.proofs.Faults.{IfErr-handed}
 use Rattle.fs_app_sites.specs.Sited.{AreSites}
 use Rattle.fs_app_sites.proofs.PlaceFaults.{order-words}
 use Rattle.fs_app_sites.proofs.Sites.{are-fences}

@@ -1,6 +1,6 @@
 use Rattle.std.proofs.Common.{Err, ap, subst}
 use Rattle.fs_check.specs.Verdicts.{IsVerdict}
-use Rattle.fs_app_place_order.proofs.Faults.{IfErr-handed}
+use Rattle.fs_app_place_and_order.proofs.Faults.{IfErr-handed}
 use Rattle.fs_app_sites.proofs.PlaceFaults.{order-memory, order-witness}
 use Rattle.fs_app_sites.proofs.order.judge_fenced.Goals as goal
 

@@ -1,4 +1,4 @@
-use Rattle.fs_app_place_order.proofs.Faults.{IfErr-handed}
+use Rattle.fs_app_place_and_order.proofs.Faults.{IfErr-handed}
 use Rattle.fs_app_sites.proofs.PlaceFaults.{order-file}
 use Rattle.fs_app_sites.proofs.order.run_order_sites.Goals as goal
 

@@ -1,7 +1,7 @@
 use Rattle.std.proofs.Common.{◌≢◌, IfErr, subst, sym}
 use Rattle.std.specs.Option.{option_copied}
 use Rattle.fs_kinds.specs.declared.fault.Fault.TheVariants.{Memory}
-use Rattle.fs_app_place_order.proofs.Faults.{IfErr-handed}
+use Rattle.fs_app_place_and_order.proofs.Faults.{IfErr-handed}
 use Rattle.fs_app_sites.specs.Place.{IsGivenPricesFault}
 use Rattle.fs_app_sites.proofs.place.given_prices.Goals as goal
 

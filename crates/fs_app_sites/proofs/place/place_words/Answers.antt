@@ -1,5 +1,5 @@
 use Rattle.std.proofs.Common.{◌≡◌, ◌∙◌, Err, ap, arith, false, refl, string_bytes, sym, true}
-use Rattle.fs_app_place_order.proofs.Faults.{IfErr-handed}
+use Rattle.fs_app_place_and_order.proofs.Faults.{IfErr-handed}
 use Rattle.fs_app_sites.specs.Place.{of_kinds}
 use Rattle.fs_app_sites.proofs.PlaceFaults.{place-length, place-words}
 use Rattle.fs_app_sites.proofs.Sites.{passed-asked}

@@ -1,7 +1,7 @@
 use Rattle.std.proofs.Common.{subst}
 use Rattle.fs_litmus.specs.Fence.{IsShort}
 use Rattle.fs_model.specs.Fenced.{fenced}
-use Rattle.fs_app_place_order.proofs.Faults.{IfErr-handed}
+use Rattle.fs_app_place_and_order.proofs.Faults.{IfErr-handed}
 use Rattle.fs_app_sites.proofs.place.placed_text.Goals as goal
 
 pub returns-in_err-text-clause-err : goal.returns-in_err-text-clause-err

@@ -2,7 +2,7 @@ use Rattle.std.proofs.Common.{option_map, subst, sym}
 use Rattle.std.specs.Option.{option_copied}
 use Rattle.std.proofs.lemmas.Result.{IfErr-weaker, IfOk-weaker}
 use Rattle.serde_json.specs.View.{view}
-use Rattle.fs_app_place_order.proofs.Faults.{IfErr-handed}
+use Rattle.fs_app_place_and_order.proofs.Faults.{IfErr-handed}
 use Rattle.fs_app_sites.specs.Place.{AreGivenPrices}
 use Rattle.fs_app_sites.proofs.PlaceFaults.{place-prices}
 use Rattle.fs_app_sites.proofs.place.run_place_sites.Goals as goal

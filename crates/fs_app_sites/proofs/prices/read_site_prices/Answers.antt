@@ -1,5 +1,5 @@
 use Rattle.std.proofs.Common.{rules, sym}
-use Rattle.fs_app_place_order.proofs.Faults.{IfErr-handed}
+use Rattle.fs_app_place_and_order.proofs.Faults.{IfErr-handed}
 use Rattle.fs_app_sites.specs.SitePrices.{no_top}
 use Rattle.fs_app_sites.proofs.Faults.{read-fault, refused-fault}
 use Rattle.fs_app_sites.proofs.prices.read_site_prices.Goals as goal

@@ -1,6 +1,6 @@
 use Rattle.std.proofs.Common.{map, string_bytes}
 use Rattle.std.proofs.lemmas.Result.{IfErr-weaker}
-use Rattle.fs_app_place_order.proofs.Faults.{IfErr-handed}
+use Rattle.fs_app_place_and_order.proofs.Faults.{IfErr-handed}
 use Rattle.fs_app_sites.proofs.Combined.{if-both}
 use Rattle.fs_app_sites.proofs.Faults.{first-asked, first-memory, first-search}
 use Rattle.fs_app_sites.proofs.Reading.{asked-again, is-solved}

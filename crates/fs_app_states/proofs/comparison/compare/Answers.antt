@@ -2,7 +2,7 @@ use Rattle.std.proofs.Common.{◌≡◌, ◌∙◌, ap, sym, subst, None, map, s
 use Rattle.std.specs.Arc.{arc_value}
 use Rattle.fs_model.specs.Slots.{slots}
 use Rattle.fs_model.specs.declared.test.Test.{Test}
-use Rattle.fs_app_place_order.proofs.Placements.{slots_of-IsPlaced}
+use Rattle.fs_app_place_and_order.proofs.Placements.{slots_of-IsPlaced}
 use Rattle.fs_app_states.specs.Compared.{states_seen, is_in_log, IsComparedTo, IsCompared}
 use Rattle.fs_app_states.proofs.Results.{IfOk-both}
 use Rattle.fs_app_states.proofs.comparison.compare.Goals as goal

@@ -2,9 +2,9 @@ use Rattle.std.proofs.Common.{◌∙◌, ap, sym, subst, List, None, map}
 use Rattle.std.proofs.lemmas.List.{length-map}
 use Rattle.std.specs.Arc.{arc_value}
 use Rattle.std.specs.List.{filter}
-use Rattle.fs_judge_final_states.specs.declared.place.Place.{Place}
-use Rattle.fs_judge_final_states.specs.declared.state.State.{State}
-use Rattle.fs_judge_final_states.specs.States.{AreStates, words_of}
+use Rattle.fs_judge_outcomes.specs.declared.place.Place.{Place}
+use Rattle.fs_judge_outcomes.specs.declared.state.State.{State}
+use Rattle.fs_judge_outcomes.specs.States.{AreStates, words_of}
 use Rattle.fs_app_states.specs.Compared.{is_lacking}
 use Rattle.fs_app_states.specs.Tallies.{Counted, counted, entries_of, IsTally}
 use Rattle.fs_app_states.proofs.Tallying.{view}

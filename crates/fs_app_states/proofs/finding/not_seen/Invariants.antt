@@ -1,6 +1,6 @@
 use Rattle.std.proofs.Common.{◌≡◌, take}
 use Rattle.std.specs.List.{filter}
-use Rattle.fs_judge_final_states.specs.States.{words_of}
+use Rattle.fs_judge_outcomes.specs.States.{words_of}
 use Rattle.fs_app_states.specs.Compared.{is_lacking}
 use Rattle.fs_app_states.specs.Tallies.{entries_of}
 use Rattle.fs_app_states.proofs.finding.not_seen.Given as goal

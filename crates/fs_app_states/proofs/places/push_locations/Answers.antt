@@ -1,5 +1,5 @@
 use Rattle.std.proofs.Common.{◌∙◌}
-use Rattle.fs_judge_final_states.specs.declared.place.Place.TheVariants.{Location}
+use Rattle.fs_judge_outcomes.specs.declared.place.Place.TheVariants.{Location}
 use Rattle.fs_app_states.proofs.Numbered.{pushed}
 use Rattle.fs_app_states.proofs.places.push_locations.Goals as goal
 

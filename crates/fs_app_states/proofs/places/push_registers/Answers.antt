@@ -1,5 +1,5 @@
 use Rattle.std.proofs.Common.{[], ◌∷◌, ◌++◌, ap, ◌∙◌}
-use Rattle.fs_judge_final_states.specs.declared.place.Place.TheVariants.{Register}
+use Rattle.fs_judge_outcomes.specs.declared.place.Place.TheVariants.{Register}
 use Rattle.fs_app_states.proofs.Numbered.{pushed}
 use Rattle.fs_app_states.proofs.places.push_registers.Goals as goal
 

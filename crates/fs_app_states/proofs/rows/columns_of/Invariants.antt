@@ -1,6 +1,6 @@
 use Rattle.std.proofs.Common.{◌≡◌, true, map, take}
 use Rattle.std.specs.List.{AllZip}
-use Rattle.fs_judge_final_states.specs.States.{ArePlacesOf}
+use Rattle.fs_judge_outcomes.specs.States.{ArePlacesOf}
 use Rattle.fs_app_states.specs.Rows.{are_apart, IsColumn}
 use Rattle.fs_app_states.proofs.rows.columns_of.Given as goal
 

@@ -1,7 +1,7 @@
 use Rattle.std.proofs.Common.{rules, ◌≡◌, sym, subst, true, false, List, [], ◌∷◌, ◌++◌, map}
 use Rattle.std.specs.List.{AllZip, list_any}
 use Rattle.fs_app_states.specs.declared.columns.Column.{Column}
-use Rattle.fs_judge_final_states.specs.States.{ArePlacesOf}
+use Rattle.fs_judge_outcomes.specs.States.{ArePlacesOf}
 use Rattle.fs_app_states.specs.Rows.{are_apart, is_place, IsColumn}
 use Rattle.fs_app_states.proofs.Matching.{zip_push, apart_push, own_push}
 use Rattle.fs_app_states.proofs.rows.push_column.Goals as goal

@@ -2,7 +2,7 @@ use Rattle.std.proofs.Common.{◌≢◌, IfOk, IfErr, string_bytes, ap, sym, sub
 use Rattle.fs_kinds.specs.declared.fault.Fault.TheVariants.{Memory}
 use Rattle.fs_model.specs.declared.test.Test.{Test}
 use Rattle.fs_model.specs.Slots.{slots}
-use Rattle.fs_judge_final_states.specs.States.{ArePlacesOf, IsStatesFault}
+use Rattle.fs_judge_outcomes.specs.States.{ArePlacesOf, IsStatesFault}
 use Rattle.fs_app_states.specs.Shown.{places_of}
 use Rattle.fs_app_states.specs.inner.Parts.{IsOfStates}
 use Rattle.fs_app_states.proofs.shown.owned_states.Goals as goal

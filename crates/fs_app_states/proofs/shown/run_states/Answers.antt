@@ -1,4 +1,4 @@
-use Rattle.fs_app_place_order.proofs.Faults.{IfErr-handed}
+use Rattle.fs_app_place_and_order.proofs.Faults.{IfErr-handed}
 use Rattle.fs_app_states.proofs.Answering.{first-test}
 use Rattle.fs_app_states.proofs.shown.run_states.Goals as goal
 

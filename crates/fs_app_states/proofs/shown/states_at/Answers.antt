@@ -1,8 +1,8 @@
 use Rattle.std.proofs.Common.{◌≢◌, ◌∙◌, IfErr, List, subst}
 use Rattle.std.specs.Arc.{arc_value}
 use Rattle.fs_kinds.specs.declared.fault.Fault.TheVariants.{Memory}
-use Rattle.fs_judge_final_states.specs.States.{IsStatesFault}
-use Rattle.fs_judge_final_states.specs.declared.place.Place.{Place}
+use Rattle.fs_judge_outcomes.specs.States.{IsStatesFault}
+use Rattle.fs_judge_outcomes.specs.declared.place.Place.{Place}
 use Rattle.fs_app_states.proofs.shown.states_at.Goals as goal
 
 pub returns-clause-err : goal.returns-clause-err

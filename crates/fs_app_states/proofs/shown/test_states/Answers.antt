@@ -1,8 +1,8 @@
 use Rattle.std.proofs.Common.{Err, None, map, string_bytes, ap, sym, subst}
 use Rattle.std.proofs.lemmas.Result.{IfOk-weaker, IfErr-weaker}
 use Rattle.fs_model.specs.Slots.{slots}
-use Rattle.fs_app_place_order.proofs.Faults.{IfErr-handed}
-use Rattle.fs_app_place_order.proofs.Placements.{slots_of-IsPlaced}
+use Rattle.fs_app_place_and_order.proofs.Faults.{IfErr-handed}
+use Rattle.fs_app_place_and_order.proofs.Placements.{slots_of-IsPlaced}
 use Rattle.fs_app_states.specs.Places.{AreColumns}
 use Rattle.fs_app_states.proofs.Showing.{are_places}
 use Rattle.fs_app_states.proofs.Answering.{first-locations, first-fences, first-states, told}

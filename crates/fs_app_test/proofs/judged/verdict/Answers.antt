@@ -3,7 +3,7 @@ use Rattle.std.specs.Arc.{arc_value}
 use Rattle.fs_kinds.specs.declared.fault.Fault.TheVariants.{Memory}
 use Rattle.fs_model.specs.declared.test.Test.{Test}
 use Rattle.fs_cert_evidence.specs.CandidateFaults.{IsCandidateFault}
-use Rattle.fs_app_place_order.proofs.Faults.{IfErr-handed}
+use Rattle.fs_app_place_and_order.proofs.Faults.{IfErr-handed}
 use Rattle.fs_app_test.proofs.judged.verdict.Goals as goal
 
 pub returns-in_err-problem-clause-err : goal.returns-in_err-problem-clause-err

@@ -3,7 +3,7 @@ use Rattle.std.proofs.lemmas.Bool.{false≢true}
 use Rattle.fs_model.specs.declared.test.Test.{Test}
 use Rattle.fs_cert_evidence.specs.Inferences.{cycles_of}
 use Rattle.fs_cert_evidence.specs.Certificate.{Cycles}
-use Rattle.fs_judge_vacuous_outcomes.specs.Vacuous.{IsVacuous, HasManyRuns}
+use Rattle.fs_judge_outcomes.specs.Vacuous.{IsVacuous, HasManyRuns}
 use Rattle.fs_app_test.specs.SaidVerdicts.{IsSettled}
 use Rattle.fs_app_test.specs.Words.{contradictions_in}
 use Rattle.fs_app_test.proofs.said_of_verdict.said_forbidden.Goals as goal

@@ -3,8 +3,8 @@ use Rattle.std.specs.Arc.{arc_value}
 use Rattle.fs_model.specs.declared.test.Test.{Test}
 use Rattle.fs_model.specs.declared.step.Step.{Step}
 use Rattle.fs_cert_evidence.specs.Trees.{AreItsRuns}
-use Rattle.fs_judge_vacuous_outcomes.specs.Vacuous.{IsVacuous, HasManyRuns}
-use Rattle.fs_judge_vacuous_outcomes.proofs.Forbidden.{vacuous_forbids}
+use Rattle.fs_judge_outcomes.specs.Vacuous.{IsVacuous, HasManyRuns}
+use Rattle.fs_judge_outcomes.proofs.Forbidden.{vacuous_forbids}
 use Rattle.fs_app_test.specs.Words.{never_in_outcome, never_words}
 use Rattle.fs_app_test.proofs.vacuous.vacuous.Goals as goal
 

@@ -2,7 +2,7 @@ use Rattle.std.proofs.Common.{◌≡◌, ◌∙◌, Bool, List, ap, string_bytes
 use Rattle.std.specs.Arc.{arc_value}
 use Rattle.std.proofs.lemmas.Result.{IfOk-weaker}
 use Rattle.fs_model.specs.declared.test.Test.{Test}
-use Rattle.fs_app_why_kinds.specs.Kinds.{ChainKind}
+use Rattle.fs_app_why.specs.Kinds.{ChainKind}
 use Rattle.fs_app_why.specs.Forbidden.{AreKinds}
 use Rattle.fs_app_why.specs.Why.{TellsPlaced, TellsUnless, unplaced_text}
 use Rattle.fs_app_why.proofs.answered.placed_text.Goals as goal

@@ -1,7 +1,7 @@
 use Rattle.std.proofs.Common.{subst}
 use Rattle.std.specs.Arc.{arc_value}
 use Rattle.fs_judge.specs.Verdicts.{IsVerdict}
-use Rattle.fs_app_place_order.proofs.Faults.{IfErr-handed}
+use Rattle.fs_app_place_and_order.proofs.Faults.{IfErr-handed}
 use Rattle.fs_app_why.proofs.Faults.{run_is_candidate}
 use Rattle.fs_app_why.proofs.ruled_out.forbidden_text.Goals as goal
 

@@ -1,12 +1,12 @@
 use Rattle.std.proofs.Common.{◌++◌, ◌∙◌, ap, IfNone, IfSome, None, Some, inl, inr, subst}
 use Rattle.fs_kinds.specs.Placement.{with_kind}
 use Rattle.fs_check.specs.Ordered.{execution_in, runs_in}
-use Rattle.fs_app_why_nearer.specs.First.{IsOfFirst, NoneShows}
+use Rattle.fs_app_why.specs.First.{IsOfFirst, NoneShows}
 use Rattle.fs_app_why.specs.Traces.{trace_text}
-use Rattle.fs_app_why_nearer.specs.Weaker.{without_or_with}
-use Rattle.fs_app_why_nearer.specs.Kept.{keeps_kind}
+use Rattle.fs_app_why.specs.Weaker.{without_or_with}
+use Rattle.fs_app_why.specs.Kept.{keeps_kind}
 use Rattle.fs_app_why.proofs.Certified.{first_told, no_witness_shows}
-use Rattle.fs_app_why_nearer.proofs.Kept.{kept_where_shown}
+use Rattle.fs_app_why.proofs.Kept.{kept_where_shown}
 use Rattle.fs_app_why.proofs.without.first_text.Goals as goal
 
 pub returns-in_ok-told-in-Some-clause-told : goal.returns-in_ok-told-in-Some-clause-told

@@ -1,5 +1,5 @@
 use Rattle.std.proofs.Common.{◌≡◌, ℕ, IfOk, string_bytes, subst}
-use Rattle.fs_app_why_kinds.specs.Counted.{in_text}
+use Rattle.fs_app_why.specs.Counted.{in_text}
 use Rattle.fs_app_why.proofs.without.kinds_text.Goals as goal
 
 pub returns : goal.returns

@@ -4,7 +4,7 @@ use Rattle.std.specs.Borrow.{Bor}
 use Rattle.std.proofs.lemmas.Bool.{eq-eqb}
 use Rattle.fs_kinds.specs.declared.reason.OperationName.{OperationName as Name}
 use Rattle.fs_cert_evidence.specs.Musts.{alone, is_rule, knows_enough}
-use Rattle.fs_region_runs.specs.Alone.{RunOf}
+use Rattle.fs_region_refutation.specs.Alone.{RunOf}
 use Rattle.fs_region_refutation.specs.Views.{region_of, runs_of, AreRunsOf}
 use Rattle.fs_region_refutation.proofs.Lists.{last_of_four, second_of_two}
 use Rattle.fs_region_refutation.proofs.causes.must_by_rule.Goals as goal

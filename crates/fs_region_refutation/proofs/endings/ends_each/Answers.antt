@@ -8,7 +8,7 @@ use Rattle.fs_model.specs.declared.step.Step.{Step}
 use Rattle.fs_model.specs.Execution.{initial_words}
 use Rattle.fs_cert_evidence.specs.Regions.{stored_at, names as names_of}
 use Rattle.fs_cert_evidence.specs.Musts.{must_be, stores_such}
-use Rattle.fs_region_runs.specs.Alone.{RunOf}
+use Rattle.fs_region_refutation.specs.Alone.{RunOf}
 use Rattle.fs_region_refutation.specs.Views.{region_of, list_at}
 use Rattle.fs_region_refutation.specs.inner.Each.{is_ending, is_last, of_hart, ends_with}
 use Rattle.fs_region_refutation.proofs.Lists.{map_seen}

@@ -1,7 +1,7 @@
 use Rattle.std.proofs.Common.{◌∙◌, List, map, ap, subst, sym}
 use Rattle.std.specs.Borrow.{Bor}
 use Rattle.std.specs.List.{list_any}
-use Rattle.fs_region_runs.specs.Alone.{RunOf}
+use Rattle.fs_region_refutation.specs.Alone.{RunOf}
 use Rattle.fs_region_refutation.specs.Views.{region_of, list_at, runs_of, AreRunsOf}
 use Rattle.fs_region_refutation.specs.inner.Asked.{ends_so}
 use Rattle.fs_region_refutation.proofs.Alike.{own_ends, each_ends_alike}

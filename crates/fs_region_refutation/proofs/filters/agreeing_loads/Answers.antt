@@ -3,7 +3,7 @@ use Rattle.std.specs.Borrow.{Bor}
 use Rattle.std.specs.List.{list_any}
 use Rattle.fs_cert_evidence.specs.Regions.{address_at, loaded_at, stored_at}
 use Rattle.fs_cert_evidence.specs.Splits.{agree}
-use Rattle.fs_region_runs.specs.Alone.{RunOf}
+use Rattle.fs_region_refutation.specs.Alone.{RunOf}
 use Rattle.fs_region_refutation.specs.declared.musts.Access.TheVariants.{Load}
 use Rattle.fs_region_refutation.specs.Views.{runs_of}
 use Rattle.fs_region_refutation.specs.inner.Pairs.{is_among, pair_at}

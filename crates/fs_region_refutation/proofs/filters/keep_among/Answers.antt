@@ -1,7 +1,7 @@
 use Rattle.std.proofs.Common.{sym, ◌∙◌}
 use Rattle.std.specs.Borrow.{Bor}
 use Rattle.std.proofs.lemmas.Bool.{eqb-true}
-use Rattle.fs_region_runs.specs.Alone.{RunOf}
+use Rattle.fs_region_refutation.specs.Alone.{RunOf}
 use Rattle.fs_region_refutation.specs.inner.Pairs.{pair_at}
 use Rattle.fs_region_refutation.proofs.Pairs.{kept_none}
 use Rattle.fs_region_refutation.proofs.filters.keep_among.Goals as goal

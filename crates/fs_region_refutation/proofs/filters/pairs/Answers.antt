@@ -2,7 +2,7 @@ use Rattle.std.proofs.Common.{◌∙◌, sym, ap, subst}
 use Rattle.std.specs.Borrow.{Bor}
 use Rattle.std.specs.List.Sorted.{IsSorted}
 use Rattle.std.proofs.lemmas.List.Filters.{dedup_is}
-use Rattle.fs_region_runs.specs.Alone.{RunOf}
+use Rattle.fs_region_refutation.specs.Alone.{RunOf}
 use Rattle.fs_region_refutation.specs.inner.Pairs.{is_among, pair_at, by_pair}
 use Rattle.fs_region_refutation.proofs.Pairs.{among_once, sorted_once, pairs_seen}
 use Rattle.fs_region_refutation.proofs.filters.pairs.Goals as goal

@@ -3,7 +3,7 @@ use Rattle.std.specs.List.{list_all}
 use Rattle.fs_model.specs.Preserved.{Rule}
 use Rattle.fs_ppo.specs.Rules.{number_of as number_of_rule}
 use Rattle.fs_cert_evidence.specs.Regions.{Region}
-use Rattle.fs_region_runs.specs.Alone.{Knows}
+use Rattle.fs_region_refutation.specs.Alone.{Knows}
 use Rattle.fs_region_refutation.specs.inner.Asked.{is_ordered_in}
 use Rattle.fs_region_refutation.proofs.musts.all_order.Given as goal
 

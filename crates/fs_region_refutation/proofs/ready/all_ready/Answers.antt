@@ -1,7 +1,7 @@
 use Rattle.std.proofs.Common.{◌∙◌, [], All, subst, sym}
 use Rattle.std.specs.Arc.{arc_value}
 use Rattle.std.proofs.lemmas.List.{get_or_default}
-use Rattle.fs_region_runs.specs.Alone.{IsRun}
+use Rattle.fs_region_refutation.specs.Alone.{IsRun}
 use Rattle.fs_region_refutation.proofs.ready.all_ready.Goals as goal
 
 pub ready-requires-clause-runs : goal.ready-requires-clause-runs

@@ -5,7 +5,7 @@ use Rattle.fs_model.specs.declared.step.Step.{Step}
 use Rattle.fs_cert_evidence.specs.Regions.{Region}
 use Rattle.fs_cert_evidence.specs.Splits.{chosen_at, keep, rising}
 use Rattle.fs_cert_evidence.specs.Trees.{is_open}
-use Rattle.fs_region_runs.specs.Alone.{RunOf}
+use Rattle.fs_region_refutation.specs.Alone.{RunOf}
 use Rattle.fs_region_refutation.specs.Views.{region_of, list_at, runs_of}
 use Rattle.fs_region_refutation.proofs.Lists.{made_and_kept, made_more, made_all}
 use Rattle.fs_region_refutation.proofs.splits.by_choice.Goals as goal

@@ -4,7 +4,7 @@ use Rattle.std.proofs.lemmas.List.Elements.{All-nil}
 use Rattle.fs_model.specs.declared.step.Step.{Step}
 use Rattle.fs_cert_evidence.specs.Splits.{keep}
 use Rattle.fs_cert_evidence.specs.Trees.{is_open}
-use Rattle.fs_region_runs.specs.Alone.{RunOf}
+use Rattle.fs_region_refutation.specs.Alone.{RunOf}
 use Rattle.fs_region_refutation.specs.Views.{region_of, regions_of, runs_of, list_at, AreOf, IsOf}
 use Rattle.fs_region_refutation.specs.inner.Each.{may_all_with}
 use Rattle.fs_region_refutation.proofs.Lists.{one_added}

@@ -3,8 +3,8 @@ use Rattle.std.proofs.lemmas.List.Elements.{All-nil, filter-append}
 use Rattle.fs_cert_evidence.specs.Regions.{Region}
 use Rattle.fs_cert_evidence.specs.Splits.{from_nothing, from_source}
 use Rattle.fs_cert_evidence.specs.Trees.{is_open}
-use Rattle.fs_region_runs.specs.Alone.{source_of}
-use Rattle.fs_region_runs.specs.declared.source.Source.{Source}
+use Rattle.fs_region_refutation.specs.Alone.{source_of}
+use Rattle.fs_region_refutation.specs.declared.source.Source.{Source}
 use Rattle.fs_region_refutation.specs.Views.{region_of, regions_of, AreOf, IsOf}
 use Rattle.fs_region_refutation.proofs.Lists.{made_more, made_all, map_seen, one_added, none_added}
 use Rattle.fs_region_refutation.proofs.splits.by_source.Goals as goal

@@ -1,7 +1,7 @@
 use Rattle.std.proofs.Common.{◌≡◌, ◌++◌, ◌∷◌, [], filter, take}
 use Rattle.fs_cert_evidence.specs.Splits.{from_nothing, from_source}
 use Rattle.fs_cert_evidence.specs.Trees.{is_open}
-use Rattle.fs_region_runs.specs.Alone.{source_of}
+use Rattle.fs_region_refutation.specs.Alone.{source_of}
 use Rattle.fs_region_refutation.specs.Views.{region_of, regions_of, AreOf}
 use Rattle.fs_region_refutation.proofs.Lists.{made_and_kept}
 use Rattle.fs_region_refutation.proofs.splits.by_source.Given as goal

@@ -2,7 +2,7 @@ use Rattle.std.proofs.Common.{◌∙◌, ap, sym}
 use Rattle.std.specs.Borrow.{Bor}
 use Rattle.std.proofs.lemmas.List.Filters.{dedup_is}
 use Rattle.fs_cert_evidence.specs.Splits.{chosen_at, rising}
-use Rattle.fs_region_runs.specs.Alone.{RunOf}
+use Rattle.fs_region_refutation.specs.Alone.{RunOf}
 use Rattle.fs_region_refutation.proofs.Lists.{map_seen}
 use Rattle.fs_region_refutation.proofs.Rises.{rising_is}
 use Rattle.fs_region_refutation.proofs.splits.choices.Goals as goal

@@ -3,7 +3,7 @@ use Rattle.std.specs.Borrow.{Bor}
 use Rattle.std.specs.List.{list_any}
 use Rattle.fs_model.specs.declared.step.Step.{Step}
 use Rattle.fs_cert_evidence.specs.Splits.{agree, keep}
-use Rattle.fs_region_runs.specs.Alone.{RunOf}
+use Rattle.fs_region_refutation.specs.Alone.{RunOf}
 use Rattle.fs_region_refutation.specs.Views.{list_at, runs_of}
 use Rattle.fs_region_refutation.proofs.splits.keep_between.Goals as goal
 

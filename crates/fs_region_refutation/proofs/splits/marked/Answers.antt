@@ -4,7 +4,7 @@ use Rattle.std.specs.Borrow.{Bor}
 use Rattle.std.proofs.lemmas.List.Elements.{filter_more}
 use Rattle.std.proofs.lemmas.Option.{slice_get-map, slice_get_read}
 use Rattle.fs_model.specs.declared.step.Step.{Step}
-use Rattle.fs_region_runs.specs.Alone.{RunOf}
+use Rattle.fs_region_refutation.specs.Alone.{RunOf}
 use Rattle.fs_region_refutation.specs.Views.{runs_of}
 use Rattle.fs_region_refutation.proofs.splits.marked.Goals as goal
 

@@ -3,7 +3,7 @@ use Rattle.std.proofs.lemmas.List.{take_all}
 use Rattle.std.proofs.lemmas.List.Elements.{filter-append}
 use Rattle.fs_cert_evidence.specs.Regions.{Initial, From, names}
 use Rattle.fs_cert_evidence.specs.Splits.{is_left, can_be_source}
-use Rattle.fs_region_runs.specs.Alone.{source_of}
+use Rattle.fs_region_refutation.specs.Alone.{source_of}
 use Rattle.fs_region_refutation.specs.Views.{known_source}
 use Rattle.fs_region_refutation.proofs.Lists.{kept_made_kept, kept_joins, added, none_added}
 use Rattle.fs_region_refutation.proofs.splits.sources_for.Goals as goal

@@ -1,7 +1,7 @@
 use Rattle.std.proofs.Common.{◌≡◌, ◌++◌, ◌∷◌, [], filter, map, take}
 use Rattle.fs_cert_evidence.specs.Regions.{Initial, From}
 use Rattle.fs_cert_evidence.specs.Splits.{is_left, can_be_source}
-use Rattle.fs_region_runs.specs.Alone.{source_of}
+use Rattle.fs_region_refutation.specs.Alone.{source_of}
 use Rattle.fs_region_refutation.specs.Views.{known_source}
 use Rattle.fs_region_refutation.proofs.Lists.{kept_made_kept}
 use Rattle.fs_region_refutation.proofs.splits.sources_for.Given as goal

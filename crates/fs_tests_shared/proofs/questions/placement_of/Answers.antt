@@ -1,6 +1,6 @@
 use Rattle.std.proofs.Common.{None}
 use Rattle.std.proofs.lemmas.Result.{IfOk-weaker}
-use Rattle.fs_app_place_order.proofs.Placements.{slots_of-IsPlaced}
+use Rattle.fs_app_place_and_order.proofs.Placements.{slots_of-IsPlaced}
 use Rattle.fs_tests_shared.proofs.questions.placement_of.Goals as goal
 
 pub returns : goal.returns

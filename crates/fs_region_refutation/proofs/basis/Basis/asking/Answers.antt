@@ -4,7 +4,7 @@ use Rattle.std.specs.List.{slice_index_or}
 use Rattle.fs_kinds.specs.declared.reason.OperationName.{OperationName as Name}
 use Rattle.fs_model.specs.declared.test.Test.{Test}
 use Rattle.fs_model.specs.OfTests.{program_of}
-use Rattle.fs_region_runs.specs.Alone.{RunOf}
+use Rattle.fs_region_refutation.specs.Alone.{RunOf}
 use Rattle.fs_region_refutation.specs.Runs.{all_asked, HasProgramOf, IsBasis}
 use Rattle.fs_region_refutation.proofs.Asked.{has_program, still_basis}
 use Rattle.fs_region_refutation.proofs.basis.Basis.asking.Goals as goal

@@ -1,5 +1,5 @@
 use Rattle.std.proofs.Common.{◌∙◌, List, ap, refl}
-use Rattle.fs_region_runs.specs.Alone.{source_of}
+use Rattle.fs_region_refutation.specs.Alone.{source_of}
 use Rattle.fs_region_refutation.specs.declared.region.Sourced.{Sourced}
 use Rattle.fs_region_refutation.specs.declared.region.Region.{Region}
 use Rattle.fs_region_refutation.specs.Views.{source_in, source_after}

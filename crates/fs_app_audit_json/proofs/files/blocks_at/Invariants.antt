@@ -1,6 +1,0 @@
-use Rattle.fs_app_audit_json.specs.Files.{AreObjectBlocks}
-use Rattle.fs_app_audit_json.proofs.files.blocks_at.Given as goal
-
--- those so far
-abbrev pub invariant-loop-one : goal.invariant-loop-one
-invariant-loop-one l = AreObjectBlocks l.is_anew l.prices l.blocks.items

@@ -1,5 +1,0 @@
-use Rattle.std.proofs.lemmas.Result.{IfOk-weaker}
-use Rattle.fs_app_audit_json.proofs.files.told.Goals as goal
-
-pub returns-in-Ok : goal.returns-in-Ok
-returns-in-Ok c = IfOk-weaker c.said_of.result _ _ (λ made h. (_, h)) c.said_of.ensures

@@ -1,4 +1,0 @@
-pub mod Rows
-pub mod Objects
-pub mod Answered
-pub mod Files

@@ -1,0 +1,10 @@
+pub mod Few
+pub mod Parts
+pub mod Whole
+pub mod OfRows
+pub mod OfFindings
+pub mod Blocked
+pub mod AsAdvised
+pub mod Needed
+pub mod Told
+pub mod AnsweredWhy

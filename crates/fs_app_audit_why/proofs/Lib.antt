@@ -1,4 +1,0 @@
-pub mod AsAdvised
-pub mod Needed
-pub mod Told
-pub mod Answered

@@ -1,2 +1,0 @@
-pub mod Advised
-pub mod Why

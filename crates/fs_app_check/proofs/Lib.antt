@@ -1,3 +1,0 @@
-pub mod CheckFaults
-pub mod Given
-pub mod Whole

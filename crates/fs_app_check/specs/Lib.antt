@@ -1,2 +1,0 @@
-pub mod Check
-pub mod inner

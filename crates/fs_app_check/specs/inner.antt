@@ -1,3 +1,0 @@
--- What only inner functions and proofs need.
-pub mod Named
-pub mod Yes

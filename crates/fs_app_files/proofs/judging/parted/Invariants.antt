@@ -1,7 +1,0 @@
-use Rattle.std.proofs.Common.{map}
-use Rattle.fs_app_files.specs.Judging.{AreJudged}
-use Rattle.fs_app_files.proofs.judging.parted.Given as goal
-
--- those so far
-abbrev pub invariant-loop-file : goal.invariant-loop-file
-invariant-loop-file l = AreJudged l.lines.items (map (λ test. test.items) l.tests.items)

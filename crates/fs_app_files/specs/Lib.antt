@@ -1,3 +1,0 @@
-pub mod Rows
-pub mod FaultObjects
-pub mod Judging

@@ -1,3 +1,0 @@
-pub mod Certificates
-pub mod Faults
-pub mod Parts

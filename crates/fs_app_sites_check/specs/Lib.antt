@@ -1,4 +1,0 @@
-pub mod SitesFile
-pub mod Kept
-pub mod Checked
-pub mod Certified

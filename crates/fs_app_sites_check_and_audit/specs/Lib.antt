@@ -1,0 +1,12 @@
+pub mod Files
+pub mod Copies
+pub mod Asked
+pub mod Marks
+pub mod Lines
+pub mod Printed
+pub mod Objects
+pub mod Audited
+pub mod SitesFile
+pub mod Kept
+pub mod Checked
+pub mod Certified

@@ -1,2 +1,0 @@
-pub mod Founding
-pub mod SolveFaults

@@ -1,3 +1,0 @@
-pub mod Solve
-pub mod Found
-pub mod inner

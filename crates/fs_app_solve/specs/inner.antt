@@ -1,2 +1,0 @@
--- What only inner functions and proofs need.
-pub mod Made

@@ -1,0 +1,4 @@
+pub mod Solve
+pub mod Found
+pub mod inner
+pub mod Check

@@ -1,0 +1,4 @@
+-- What only inner functions and proofs need.
+pub mod Made
+pub mod Named
+pub mod Yes

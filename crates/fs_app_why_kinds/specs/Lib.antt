@@ -1,9 +1,0 @@
-pub mod Words
-pub mod Arrows
-pub mod Told
-pub mod Counted
-pub mod Known
-pub mod Fences
-pub mod Ends
-pub mod Chains
-pub mod Kinds

@@ -1,4 +1,0 @@
-pub mod FirstShown
-pub mod Reordering
-pub mod Kept
-pub mod Numbered

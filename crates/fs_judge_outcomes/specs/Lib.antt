@@ -1,0 +1,4 @@
+pub mod States
+pub mod inner
+pub mod Limit
+pub mod Vacuous

@@ -1,2 +1,0 @@
-pub mod Vacuous
-pub mod inner

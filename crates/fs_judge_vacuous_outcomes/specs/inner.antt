@@ -1,3 +1,0 @@
-pub mod Settled
-pub mod Ends
-pub mod Runs

@@ -1,6 +1,0 @@
-pub mod Instructions64
-pub mod OneTurn
-pub mod Turns
-pub mod WaitedOnce
-pub mod Waiting
-pub mod Wide

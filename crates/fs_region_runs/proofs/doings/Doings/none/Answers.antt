@@ -1,5 +1,0 @@
-use Rattle.fs_region_runs.proofs.Columns.{none_listed}
-use Rattle.fs_region_runs.proofs.doings.Doings.none.Goals as goal
-
-pub returns : goal.returns
-returns c = λ number run. none_listed (record { columns = c.new-columns.result }) c.new-columns.ensures.items number run

@@ -1,3 +1,0 @@
-pub mod Asked
-pub mod Crosses
-pub mod Outcomes

@@ -1,6 +1,0 @@
-use Rattle.std.proofs.Common.{All}
-use Rattle.fs_sites_workers.specs.Seats.{IsAskedIn}
-use Rattle.fs_sites_workers.proofs.rounds.fenced_seats.Given as goal
-
-abbrev pub invariant-loop-seat : goal.invariant-loop-seat
-invariant-loop-seat l = All (IsAskedIn l.parts l.placement) l.asked.items
