@@ -86,14 +86,15 @@ impl Gathering {
     fn add(&mut self, alloc: Global, run: &Lone, number: usize) -> Result<(), AllocError> {
         let at = self.name.at;
         self.choices.put(alloc, run.chosen_at(at), number)?;
-        let Some(address) = run.address_at(at) else {
+        let doing = run.doing_at(at);
+        let Some(address) = doing.address else {
             return Ok(());
         };
-        if let Some(word) = run.loaded_at(at) {
+        if let Some(word) = doing.loaded {
             self.loads
                 .put(alloc, class_key(location_of(address), word), number)?;
         }
-        if let Some(word) = run.stored_at(at) {
+        if let Some(word) = doing.stored {
             self.stores
                 .put(alloc, class_key(location_of(address), word), number)?;
         }

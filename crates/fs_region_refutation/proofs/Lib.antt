@@ -12,6 +12,7 @@ pub mod Chains
 pub mod Stacks
 pub mod Walked
 mod Joined
+mod Kept
 mod Accesses
 mod AskedRuns
 pub mod Columns

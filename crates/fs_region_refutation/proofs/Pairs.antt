@@ -43,7 +43,7 @@ same_tests true b f g = sym (f refl)
 same_tests false true f g = g refl
 same_tests false false f g = refl
 
-among_dedup : (xs : List Pair) (pair : Option Pair) → is_among (dedup same xs) pair ≡ is_among xs pair
+pub among_dedup : (xs : List Pair) (pair : Option Pair) → is_among (dedup same xs) pair ≡ is_among xs pair
 among_dedup xs None = refl
 among_dedup xs (Some pair) =
     let test : Pair → Bool = λ other. same other pair in

@@ -59,7 +59,7 @@ impl Doings {
 }
 
 /// What is done by this step, or where there is none.
-fn doing_from(step: Option<&Step>) -> Doing
+pub(crate) fn doing_from(step: Option<&Step>) -> Doing
     ensures { result ≡ doing_from (option_copied step.entry) }
 {
     match step {

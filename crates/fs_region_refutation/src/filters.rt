@@ -66,8 +66,8 @@ fn loads_from(run: &Lone, load: OperationName, location: u8, word: u32) -> bool
     ensures { result ≡ (is_same (address_at run.now.steps load.at) (Some (address_of location))
         && is_same (loaded_at run.now.steps load.at) (Some word)) }
 {
-    is_same(run.address_at(load.at), Some(Location::address(location)))
-        && is_same(run.loaded_at(load.at), Some(word))
+    let doing = run.doing_at(load.at);
+    is_same(doing.address, Some(Location::address(location))) && is_same(doing.loaded, Some(word))
 }
 
 /// Does the run load the word that its location begins with?
@@ -103,8 +103,8 @@ pub(crate) fn loading_initial<'a>(
 fn agree(run: &Lone, load: OperationName, other: &Lone, store: OperationName) -> bool
     ensures { result ≡ agree run.now.steps load other.now.steps store }
 {
-    is_same(run.address_at(load.at), other.address_at(store.at))
-        && is_same(run.loaded_at(load.at), other.stored_at(store.at))
+    let (loading, storing) = (run.doing_at(load.at), other.doing_at(store.at));
+    is_same(loading.address, storing.address) && is_same(loading.loaded, storing.stored)
 }
 
 /// An address and a word, if both are there.
@@ -118,7 +118,8 @@ fn both(address: Option<u32>, word: Option<u32>) -> Option<(u32, u32)>
 fn pair_at(run: &Lone, access: Access, at: u8) -> Option<(u32, u32)>
     ensures { result ≡ pair_at access at run.now.steps }
 {
-    both(run.address_at(at), accessed(run, access, at))
+    let (address, word) = accessed(run, access, at);
+    both(address, word)
 }
 
 /// The addresses and words of the runs' accesses at the position.
@@ -135,7 +136,7 @@ fn listed(
         .collect(alloc)
 }
 
-/// The same, each once and in order.
+/// The same, each once and in order. Neighbours mostly have one pair: so there are few to sort.
 fn pairs(
     alloc: Global,
     runs: &[&Lone],
@@ -147,6 +148,7 @@ fn pairs(
     ensures sorted { IfOk result (λ pairs. IsSorted by_pair pairs.items) }
 {
     let mut pairs = listed(alloc, runs, access, at)?;
+    pairs.dedup();
     pairs.sort()?;
     pairs.dedup();
     Ok(pairs)

@@ -22,7 +22,7 @@ ghost use Rattle.fs_region_refutation.specs.inner.Ordered.{IsOwn, number_from, i
 ghost use Rattle.fs_region_refutation.specs.inner.Tables.{IsReady};
 
 use crate::choice::choice_number;
-use crate::doings::{Doing, Doings};
+use crate::doings::{Doing, Doings, doing_from};
 use crate::idle::{candidate_of, code_of};
 use crate::naming::is_name;
 use crate::rules::{Returned, is_ordered};
@@ -188,34 +188,35 @@ impl Lone {
         self.doings.at(at, self.number)
     }
 
-    /// The address that the run accesses at this position of the code. In constant time.
+    /// What the run does at this position of the code. In constant time.
+    pub fn doing_at(&self, at: u8) -> Doing
+        ensures { result ≡ doing_of self.now.steps at }
+    {
+        match self.listed(at) {
+            Some(doing) => *doing,
+            None => doing_from(self.step_at(at)),
+        }
+    }
+
+    /// The address that the run accesses there. In constant time.
     pub fn address_at(&self, at: u8) -> Option<u32>
         ensures { result ≡ address_at self.now.steps at }
     {
-        match self.listed(at) {
-            Some(doing) => doing.address,
-            None => self.step_at(at)?.address,
-        }
+        self.doing_at(at).address
     }
 
     /// The word that it loads there. In constant time.
     pub fn loaded_at(&self, at: u8) -> Option<u32>
         ensures { result ≡ loaded_at self.now.steps at }
     {
-        match self.listed(at) {
-            Some(doing) => doing.loaded,
-            None => self.step_at(at)?.loaded,
-        }
+        self.doing_at(at).loaded
     }
 
     /// The word that it stores there. In constant time.
     pub fn stored_at(&self, at: u8) -> Option<u32>
         ensures { result ≡ stored_at self.now.steps at }
     {
-        match self.listed(at) {
-            Some(doing) => doing.stored,
-            None => self.step_at(at)?.stored,
-        }
+        self.doing_at(at).stored
     }
 
     /// Does it load there? In constant time.

@@ -2,7 +2,7 @@
 
 ghost use Rattle.std.specs.Prelude.{◌≡◌};
 ghost use Rattle.std.specs.List.{list_all};
-ghost use Rattle.fs_cert_evidence.specs.Regions.{same_name};
+ghost use Rattle.fs_cert_evidence.specs.Regions.{same_name, address_at};
 ghost use Rattle.fs_cert_evidence.specs.Musts.{is_before, must_be, must_meet, is_later_than, overwrites, must_pair};
 ghost use Rattle.fs_region_refutation.specs.Views.{region_of, known_source, runs_of, access_of, accesses_at, IsOf};
 ghost use Rattle.fs_region_refutation.specs.Orders.{OrdersAll};
@@ -23,13 +23,15 @@ pub enum Access {
     Store,
 }
 
-/// The word that the run loads or stores at the position.
-pub(crate) fn accessed(run: &Lone, access: Access, at: u8) -> Option<u32>
-    ensures { result ≡ access_of access run.now.steps at }
+/// The address that the run accesses at the position, and the word that it loads or stores there.
+pub(crate) fn accessed(run: &Lone, access: Access, at: u8) -> (Option<u32>, Option<u32>)
+    ensures address { result.0 ≡ address_at run.now.steps at }
+    ensures word { result.1 ≡ access_of access run.now.steps at }
 {
+    let doing = run.doing_at(at);
     match access {
-        Access::Load => run.loaded_at(at),
-        Access::Store => run.stored_at(at),
+        Access::Load => (doing.address, doing.loaded),
+        Access::Store => (doing.address, doing.stored),
     }
 }
 
@@ -37,8 +39,8 @@ pub(crate) fn accessed(run: &Lone, access: Access, at: u8) -> Option<u32>
 pub(crate) fn accesses(run: &Lone, access: Access, at: u8, location: u8) -> bool
     ensures { result ≡ accesses_at (access_of access) at location run.now.steps }
 {
-    accessed(run, access, at).is_some()
-        && is_same(run.address_at(at), Some(Location::address(location)))
+    let (address, word) = accessed(run, access, at);
+    word.is_some() && is_same(address, Some(Location::address(location)))
 }
 
 /// Does each of the runs?

@@ -131,7 +131,8 @@ fn keep_within<'a>(
     Ok(smaller)
 }
 
-/// The runs of both harts in which the load agrees with the store in some run of the other.
+/// The runs of both harts in which the load agrees with the store in some run of the other: where no store does, no
+/// load is looked at.
 fn keep_between<'a>(
     alloc: Global,
     load: OperationName,
@@ -148,7 +149,7 @@ fn keep_between<'a>(
     let loading = region.runs(load.hart);
     let storing = region.runs(store.hart);
     let stores = agreeing_stores(alloc, storing, store, loading, load)?;
-    let loads = agreeing_loads(alloc, loading, load, storing, store)?;
+    let loads = agreeing_loads(alloc, loading, load, stores.as_slice(), store)?;
     let smaller = keep(alloc, region, store.hart, stores)?;
     let smallest = keep(alloc, &smaller, load.hart, loads)?;
     Ok(smallest)

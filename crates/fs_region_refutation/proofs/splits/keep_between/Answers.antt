@@ -5,6 +5,7 @@ use Rattle.fs_model.specs.declared.step.Step.{Step}
 use Rattle.fs_cert_evidence.specs.Splits.{agree, keep}
 use Rattle.fs_region_refutation.specs.Alone.{RunOf}
 use Rattle.fs_region_refutation.specs.Views.{list_at, runs_of}
+use Rattle.fs_region_refutation.proofs.Kept.{filter_by_kept}
 use Rattle.fs_region_refutation.proofs.splits.keep_between.Goals as goal
 
 pub returns : goal.returns
@@ -20,6 +21,8 @@ returns c =
     ∙ ap (filter (λ (run : Bor RunOf). stores (list_at old load.hart) run.now.steps)) c.runs-storing.ensures in
     let kept_loads : c.in_ok-loads.loads ≡ filter (λ run. loads (list_at old store.hart) run.now.steps) (list_at c.in_ok-smaller.smaller load.hart) =
     c.in_ok-loads.ensures
+    ∙ ap (λ others. filter (λ (run : Bor RunOf). loads others run.now.steps) c.runs-loading.result.now) (c.as_slice.ensures ∙ c.in_ok-stores.ensures)
+    ∙ filter_by_kept (λ (run : Bor RunOf). run.now.steps) (λ run other. agree run load other store) c.runs-loading.result.now c.runs-storing.result.now
     ∙ ap (λ others. filter (λ (run : Bor RunOf). loads others run.now.steps) c.runs-loading.result.now) c.runs-storing.ensures
     ∙ ap (filter (λ (run : Bor RunOf). loads (list_at old store.hart) run.now.steps))
     (c.runs-loading.ensures ∙ sym (c.in_ok-smaller.ensures.others load.hart (λ same. c.requires (sym same)))) in
