@@ -181,26 +181,33 @@ impl Offers {
         self.offers.iter().find(|offer| offer.slot == slot)
     }
 
-    /// Is the slot left empty, or the kind offered there?
+    /// Is the slot left empty, or the kind offered there? None takes constant time, a kind time of slots.
     #[tactic(auto, using(crate::proofs::Nothing::nothing_offered))]
     pub fn is_offered(&self, slot: Slot, kind: Option<Kind>) -> bool
         ensures { result ≡ is_offered (offer_at self.now slot) kind }
     {
+        let Some(kind) = kind else {
+            return true;
+        };
         match self.at(slot) {
-            None => kind.is_none(),
-            Some(offer) => offer.is_offered(kind),
+            None => false,
+            Some(offer) => offer.is_offered(Some(kind)),
         }
     }
 
-    /// What the kind costs at the slot, where it is offered there, and none costs nothing.
+    /// What the kind costs at the slot, where it is offered there, and none costs nothing. None takes constant time, a
+    /// kind time of slots.
     #[tactic(auto, using(crate::proofs::Nothing::nothing_costs))]
     pub fn cost_at(&self, slot: Slot, kind: Option<Kind>) -> u32
         ensures value { result ≡ kind_cost (offer_at self.now slot) kind }
         ensures most { result ≤ 1000000000 }
     {
+        let Some(kind) = kind else {
+            return 0;
+        };
         match self.at(slot) {
             None => 0,
-            Some(offer) => offer.cost(kind),
+            Some(offer) => offer.cost(Some(kind)),
         }
     }
 
@@ -229,9 +236,12 @@ impl Offers {
     pub fn rank(&self, entry: Entry) -> usize
         ensures { result ≡ rank_at self.now entry }
     {
+        let Some(kind) = entry.kind else {
+            return 1;
+        };
         match self.at(entry.slot) {
-            None => entry.kind.map_or(1, |kind| 2 + kind.table_index()),
-            Some(offer) => offer.rank(entry.kind),
+            None => 2 + kind.table_index(),
+            Some(offer) => offer.rank(Some(kind)),
         }
     }
 
