@@ -9,9 +9,9 @@ ghost use Rattle.fs_app_error_messages.specs.inner.Turns.{Adds};
 
 use crate::blanks::blank;
 use crate::explain;
-use crate::spans::spans_of;
+use crate::first::first_fault;
+use crate::spans::{Span, spans_of};
 use fs_kinds::Fault;
-use fs_litmus::read_test;
 use std::alloc::{AllocError, Global};
 
 /// How many messages there are at most.
@@ -37,6 +37,19 @@ fn is_told(alloc: Global, bytes: &[u8], fault: Fault) -> Result<bool, AllocError
     }
 }
 
+/// Writes blanks over these parts, and gives the fault of what is left.
+fn fault_behind(
+    alloc: Global,
+    bytes: &mut [u8],
+    spans: &[Span],
+) -> Result<Option<Fault>, AllocError>
+    ensures { IfOk result (λ o. IfSome o (IsNext bytes.old bytes.new)) }
+{
+    blank(bytes, spans);
+    let next = first_fault(alloc, bytes)?;
+    Ok(next)
+}
+
 /// Writes blanks over what the fault is of, and gives the fault of what is left, where that is told.
 fn next_fault(alloc: Global, bytes: &mut [u8], fault: Fault) -> Result<Option<Fault>, AllocError>
     ensures { IfOk result (λ o. IfSome o (IsNext bytes.old bytes.new)) }
@@ -45,17 +58,13 @@ fn next_fault(alloc: Global, bytes: &mut [u8], fault: Fault) -> Result<Option<Fa
     if spans.is_empty() {
         return Ok(None);
     }
-    blank(bytes, &spans);
-    match read_test(alloc, bytes) {
-        Ok(_) => Ok(None),
-        Err(Fault::Memory) => Err(AllocError),
-        Err(next) => {
-            if is_told(alloc, bytes, next)? {
-                Ok(Some(next))
-            } else {
-                Ok(None)
-            }
-        }
+    let Some(next) = fault_behind(alloc, bytes, &spans)? else {
+        return Ok(None);
+    };
+    if is_told(alloc, bytes, next)? {
+        Ok(Some(next))
+    } else {
+        Ok(None)
     }
 }
 
@@ -124,10 +133,9 @@ pub fn explain_all_of_test(
     ensures told { IfOk result (λ o. IfSome o (λ text. AreToldOf name.now bytes.now (string_bytes text))) }
     ensures absent { IfOk result (λ o. IsNone o → (f : Fault) → ¬ HasFault bytes.now f) }
 {
-    match read_test(alloc, bytes) {
-        Ok(_) => Ok(None),
-        Err(Fault::Memory) => Err(AllocError),
-        Err(fault) => Ok(Some(told_of(alloc, name, bytes, fault)?)),
+    match first_fault(alloc, bytes)? {
+        Some(fault) => Ok(Some(told_of(alloc, name, bytes, fault)?)),
+        None => Ok(None),
     }
 }
 

@@ -6,6 +6,7 @@ ghost use Rattle.fs_litmus.specs.Faults.{HasFault, IsTestFault};
 ghost use Rattle.fs_app_error_messages.specs.Explained.{IsMessage, IsToldOf, offset_of};
 
 use crate::bindings::{atom_words, columns_of, entry_words};
+use crate::first::first_fault;
 use crate::hints::{Spot, label_words, mnemonic_words, syntax_words};
 use crate::message::message;
 use crate::point::{Point, point_of};
@@ -13,7 +14,6 @@ use crate::slices::from;
 use crate::title::{body_start, title_start};
 use crate::walk::{begins, is_blank};
 use fs_kinds::{Fault, Limit};
-use fs_litmus::read_test;
 use fs_litmus_tokens::tokens;
 use std::alloc::{AllocError, Global};
 
@@ -143,10 +143,9 @@ pub fn explain_test(alloc: Global, name: &str, bytes: &[u8]) -> Result<Option<St
     ensures told { IfOk result (λ o. IfSome o (λ text. IsToldOf name.now bytes.now (string_bytes text))) }
     ensures absent { IfOk result (λ o. IsNone o → (f : Fault) → ¬ HasFault bytes.now f) }
 {
-    match read_test(alloc, bytes) {
-        Ok(_) => Ok(None),
-        Err(Fault::Memory) => Err(AllocError),
-        Err(fault) => Ok(Some(told_of(alloc, name, bytes, fault)?)),
+    match first_fault(alloc, bytes)? {
+        Some(fault) => Ok(Some(told_of(alloc, name, bytes, fault)?)),
+        None => Ok(None),
     }
 }
 

@@ -10,6 +10,7 @@ mod blanks;
 mod condition;
 mod fences;
 mod file;
+mod first;
 mod hints;
 mod json;
 mod located;

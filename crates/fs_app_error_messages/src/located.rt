@@ -6,11 +6,11 @@ ghost use Rattle.fs_litmus.specs.Faults.{HasFault, IsTestFault};
 ghost use Rattle.fs_app_error_messages.specs.Explained.{IsFaultAt, IsJson, IsJsonPlace, IsLocated, place_at};
 
 use crate::file::{hint_of, offset_of};
+use crate::first::first_fault;
 use crate::json::{offset_at, value_words};
 use crate::places::{Place, place_of};
 use crate::point::{Point, point_of};
 use fs_kinds::Fault;
-use fs_litmus::read_test;
 use serde_json::{Error, Value};
 use std::alloc::{AllocError, Global};
 
@@ -48,10 +48,9 @@ pub fn locate_test(alloc: Global, bytes: &[u8]) -> Result<Option<Located>, Alloc
     ensures told { IfOk result (λ o. IfSome o (λ found. IsFaultAt bytes.now found.place)) }
     ensures absent { IfOk result (λ o. IsNone o → (f : Fault) → ¬ HasFault bytes.now f) }
 {
-    match read_test(alloc, bytes) {
-        Ok(_) => Ok(None),
-        Err(Fault::Memory) => Err(AllocError),
-        Err(fault) => Ok(Some(fault_located(alloc, bytes, fault)?)),
+    match first_fault(alloc, bytes)? {
+        Some(fault) => Ok(Some(fault_located(alloc, bytes, fault)?)),
+        None => Ok(None),
     }
 }
 

@@ -1,6 +1,5 @@
 //! Which token of a test file a fault is of, and where it begins.
 
-ghost use Rattle.std.specs.Bool.{Decides};
 ghost use Rattle.std.specs.Prelude.{◌≡◌, ◌≢◌, ◌+◌, ◌≤◌, ◌<◌, ◌^◌, ℕ, length, drop, IfOk, IfSome, IsNone, Some};
 ghost use Rattle.std.specs.Str.{IsUtf8, IsValidUpTo};
 ghost use Rattle.fs_kinds.specs.FaultLine.{number};
@@ -15,11 +14,11 @@ ghost use Rattle.fs_app_error_messages.specs.Points.{IsPoint};
 
 use crate::apart::apart;
 use crate::condition::atom_number;
+use crate::first::first_fault;
 use crate::slices::from;
 use crate::title::{body_start, title_start};
 use crate::walk::token_start;
 use fs_kinds::Fault;
-use fs_litmus::read_test;
 use fs_litmus_tokens::{Token, tokens};
 use std::alloc::{AllocError, Global};
 
@@ -87,12 +86,6 @@ fn number_of(found: Fault, fault: Fault) -> Option<usize>
     line_of(found)?.checked_sub(2)
 }
 
-fn is_memory(fault: Fault) -> bool
-    ensures { Decides result (number fault ≡ number Fault.Memory) }
-{
-    fault.number() == Fault::Memory.number()
-}
-
 /// The number of the token that the fault is of, or how many there are, where it is of the end.
 fn fault_number(
     alloc: Global,
@@ -104,14 +97,9 @@ fn fault_number(
     ensures absent { IfOk result (λ o. IsNone o → (n : ℕ) → ¬ IsFaultIn (apart (views tokens.now) closed) fault n) }
 {
     let file = apart(alloc, tokens, closed)?;
-    match read_test(alloc, file.as_bytes()) {
-        Ok(_) => Ok(None),
-        Err(found) => {
-            if is_memory(found) {
-                return Err(AllocError);
-            }
-            Ok(number_of(found, fault))
-        }
+    match first_fault(alloc, file.as_bytes())? {
+        Some(found) => Ok(number_of(found, fault)),
+        None => Ok(None),
     }
 }
 
