@@ -108,9 +108,9 @@ impl Gathering {
             stores,
             choices,
         } = self;
-        let loads = access_of(alloc, words, loads.groups(alloc)?)?;
-        let stores = access_of(alloc, words, stores.groups(alloc)?)?;
-        let choices = choices.groups(alloc)?;
+        let loads = access_of(alloc, words, loads.groups())?;
+        let stores = access_of(alloc, words, stores.groups())?;
+        let choices = choices.groups();
         let initial = initial(alloc, words, test, &loads.classes)?;
         Ok(Doing {
             takes: takes_of(test, name),

@@ -3,7 +3,7 @@
 use crate::forms::{Form, Outline};
 use crate::hart::Hart;
 use crate::needs::{Need, SlotPairs};
-use crate::rows::{Row, do_meet, is_empty, is_within, join, no_run};
+use crate::rows::{Row, copied, do_meet, is_within, join, no_run};
 use crate::rules::{Numbered, Rule};
 use fs_instr::Instr;
 use fs_kinds::{Classes, Entry, Kind, OperationName, Placement};
@@ -135,22 +135,39 @@ fn are_fenced(outline: &Outline, barriers: &[Barrier], first: u8, second: u8) ->
     false
 }
 
-/// The runs in which a fence orders the two.
+/// In how many of the forms does a fence order the two?
+fn count_fenced(forms: &[Form], barriers: &[Barrier], first: u8, second: u8) -> usize {
+    let mut count: usize = 0;
+    for form in forms {
+        if are_fenced(&form.outline, barriers, first, second) {
+            count = count.saturating_add(1);
+        }
+    }
+    count
+}
+
+/// The runs in which a fence orders the two, if it does in any.
 fn row(
     alloc: Global,
-    words: usize,
-    forms: &[Form],
+    hart: &Hart,
     barriers: &[Barrier],
     first: u8,
     second: u8,
-) -> Result<Row, AllocError> {
-    let mut row = no_run(alloc, words)?;
-    for form in forms {
+) -> Result<Option<Row>, AllocError> {
+    let count = count_fenced(&hart.forms, barriers, first, second);
+    if count == 0 {
+        return Ok(None);
+    }
+    if count == hart.forms.len() {
+        return Ok(Some(copied(alloc, &hart.all)?));
+    }
+    let mut row = no_run(alloc, hart.words)?;
+    for form in &hart.forms {
         if are_fenced(&form.outline, barriers, first, second) {
             join(&mut row, &form.row);
         }
     }
-    Ok(row)
+    Ok(Some(row))
 }
 
 fn add_pair(
@@ -161,15 +178,7 @@ fn add_pair(
     first: &Numbered,
     second: &Numbered,
 ) -> Result<(), AllocError> {
-    let row = row(
-        alloc,
-        hart.words,
-        &hart.forms,
-        barriers,
-        first.name.at,
-        second.name.at,
-    )?;
-    if !is_empty(&row) {
+    if let Some(row) = row(alloc, hart, barriers, first.name.at, second.name.at)? {
         let is_whole = is_within(&hart.all, &row);
         found.push(Rule {
             first: first.number,
