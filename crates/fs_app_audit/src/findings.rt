@@ -31,7 +31,7 @@ use crate::priced::Priced;
 use crate::standing::access_after;
 use crate::{is_fence, memory_kind};
 use fs_app_test::{Kind, forbids, judge_test};
-use fs_board_offers::Question;
+use fs_board_offers::{Question, is_same};
 use fs_board_search::{Answer, Problem, Unwatched, problem_of, solve_problem};
 use fs_cert_evidence::Forbidden;
 use fs_instr::Instr;
@@ -224,6 +224,25 @@ fn costs_everywhere(prices: &Prices, placement: &Placement) -> bool
         .all(|entry| costs_there(prices, entry))
 }
 
+/// Does the placement forbid the outcome as the first one does? Where they are the same nothing is judged.
+fn forbids_too(
+    alloc: Global,
+    problem: &Problem,
+    own: &Placement,
+    first: &Forbidden,
+) -> Result<bool, Fault>
+    requires slots { slots_of own.now ≡ slots problem.now }
+    requires first { Allows problem.now first.now.placement → ⊥ }
+    ensures yes { IfOk result (λ is. is ≡ true → Allows problem.now own.now → ⊥) }
+    ensures no { IfOk result (λ is. is ≡ false → Allows problem.now own.now) }
+    ensures err { IfErr result (λ f. f ≢ Fault.Memory → IsCandidateFault problem.now f) }
+{
+    if is_same(own.as_slice(), first.placement.as_slice()) {
+        return Ok(true);
+    }
+    forbids(alloc, problem, own)
+}
+
 /// Is no fence of the placement for nothing, does it cost as much as the cheapest, and forbid the outcome as they do?
 fn is_kept(
     alloc: Global,
@@ -246,7 +265,7 @@ fn is_kept(
 {
     let prices = &question.prices;
     if costs_everywhere(prices, own) && prices.cost(own) == cost {
-        forbids(alloc, problem, own)
+        forbids_too(alloc, problem, own, first)
     } else {
         Ok(false)
     }

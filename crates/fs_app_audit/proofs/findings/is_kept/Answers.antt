@@ -12,8 +12,12 @@ use Rattle.fs_app_audit.specs.Audit.{costs_everywhere}
 use Rattle.fs_app_audit.proofs.Chosen.{is-kept}
 use Rattle.fs_app_audit.proofs.findings.is_kept.Goals as goal
 
-pub forbids-requires : goal.forbids-requires
-forbids-requires c = c.requires.slots ∙ ap slots (sym c.requires.same)
+pub forbids_too-requires-clause-slots : goal.forbids_too-requires-clause-slots
+forbids_too-requires-clause-slots c = c.requires.slots ∙ ap slots (sym c.requires.same)
+
+pub forbids_too-requires-clause-first : goal.forbids_too-requires-clause-first
+forbids_too-requires-clause-first c =
+    subst (λ (t : Test). Allows t c.args.first.now.placement → ⊥) (sym c.requires.same) c.requires.first.forbids
 
 pub returns-then-cost-clause-yes : goal.returns-then-cost-clause-yes
 returns-then-cost-clause-yes c =
@@ -23,15 +27,15 @@ returns-then-cost-clause-yes c =
     ap (λ t. costs_everywhere t c.args.own.now) (sym behind) ∙ sym c.costs_everywhere.ensures ∙ c.if-costs_everywhere.true in
     let same : cost prices c.args.first.now.placement ≡ cost prices c.args.own.now =
     sym c.requires.cost ∙ sym c.if-cost.true ∙ c.cost.ensures ∙ ap (λ t. cost t c.args.own.now) behind in
-    IfOk-weaker c.forbids.result _ _
+    IfOk-weaker c.forbids_too.result _ _
     (λ is h yes. is-kept _ _ _ _ each c.requires.first c.requires.slots c.requires.offered same
-    (subst (λ (t : Test). Allows t c.args.own.now → ⊥) c.requires.same (h yes))) c.forbids.ensures.yes
+    (subst (λ (t : Test). Allows t c.args.own.now → ⊥) c.requires.same (h yes))) c.forbids_too.ensures.yes
 
 pub returns-then-cost-clause-err : goal.returns-then-cost-clause-err
 returns-then-cost-clause-err c =
-    subst (λ (t : Test). IfErr c.forbids.result (λ f. f ≢ Memory → IsCandidateFault t f)) c.requires.same c.forbids.ensures.err
+    subst (λ (t : Test). IfErr c.forbids_too.result (λ f. f ≢ Memory → IsCandidateFault t f)) c.requires.same c.forbids_too.ensures.err
 
 pub returns-then-cost-clause-no : goal.returns-then-cost-clause-no
 returns-then-cost-clause-no c =
-    IfOk-weaker c.forbids.result _ _
-    (λ is h no kept. kept.1.forbids (subst (λ (t : Test). Allows t c.args.own.now) c.requires.same (h no))) c.forbids.ensures.no
+    IfOk-weaker c.forbids_too.result _ _
+    (λ is h no kept. kept.1.forbids (subst (λ (t : Test). Allows t c.args.own.now) c.requires.same (h no))) c.forbids_too.ensures.no
