@@ -1,7 +1,7 @@
 //! What follows from what loads return from: an earlier store isn't later in coherence order.
 
 use crate::clash::{Clash, Ending};
-use crate::names::{Origin, Pairs, bit, has};
+use crate::names::{Origin, Pairs, bit, least, without_least};
 use crate::region::Region;
 use crate::saturate::{Looked, Round};
 use crate::uses::add_overwriting;
@@ -20,11 +20,14 @@ impl Round<'_> {
     pub(crate) fn follow_loads(self, looked: &mut Looked) -> Result<(), AllocError> {
         for load in 0..self.field.count {
             let stores = self.view.facts.stored(self.view.facts.load_at(load));
-            if looked.region.origin(load) == Origin::Unknown || stores & !bit(load) == 0 {
+            if looked.region.origin(load) == Origin::Unknown {
                 continue;
             }
-            for store in 0..self.field.count {
-                if store != load && has(stores, store) && looked.ending.is_none() {
+            let mut left = stores & !bit(load);
+            for _ in 0..left.count_ones() {
+                let store = least(left);
+                left = without_least(left);
+                if looked.ending.is_none() {
                     self.follow_load(looked, Meeting { load, store })?;
                 }
             }

@@ -105,9 +105,8 @@ impl Relation {
             return;
         }
         for first in 0..count.min(MOST_NAMES) {
-            if has(self.rows[first], middle) {
-                self.rows[first] |= beyond;
-            }
+            let has_middle = self.rows[first].wrapping_shr(u32::from(middle)) & 1;
+            self.rows[first] |= beyond & has_middle.wrapping_neg();
         }
     }
 }

@@ -133,7 +133,9 @@ pub(crate) fn cycle(
     let mut least = (usize::MAX, usize::MAX);
     for name in 0..count {
         if closure.has(name, name) {
-            let found = way(alloc, relation, name, name, count)?;
+            // a longer one isn't better
+            let most = u8::try_from(least.0).unwrap_or(count).min(count);
+            let found = way(alloc, relation, name, name, most)?;
             let cost = (found.len(), count_in(dear, &found));
             if !found.is_empty() && cost < least {
                 least = cost;

@@ -16,9 +16,7 @@ pub fn no_run(alloc: Global, words: usize) -> Result<Row, AllocError> {
 
 /// The same runs.
 pub(crate) fn copied(alloc: Global, row: &[u64]) -> Result<Row, AllocError> {
-    let mut copy = Vec::new(alloc);
-    copy.extend_from_slice(row)?;
-    Ok(copy)
+    Vec::from_slice(alloc, row)
 }
 
 /// Puts the run of this number into the row.

@@ -4,7 +4,7 @@ use crate::clash::{Clash, Ending, Step};
 use crate::endings::Outlook;
 use crate::facts::{Facts, blank};
 use crate::links::Edge;
-use crate::names::{MOST_NAMES, Pairs, Relation, bit, has};
+use crate::names::{MOST_NAMES, Pairs, Relation, bit, least, without_least};
 use crate::paths::{cycle, name_after, way};
 use crate::region::{Field, Region};
 use crate::uses::of_filter;
@@ -226,15 +226,14 @@ impl Round<'_> {
     fn follow_paths(self, looked: &mut Looked) -> Result<(), AllocError> {
         for first in 0..self.field.count {
             let stores = self.view.facts.stored(self.view.facts.store_at(first));
-            let later = stores & self.view.closure.row(first) & !bit(first);
-            if later == 0 {
-                continue;
-            }
-            for second in 0..self.field.count {
-                if has(later, second) && !looked.is_before(first, second) {
-                    let ending = self.cycle_by(&looked.region, first, second, Cause::Coherence)?;
-                    looked.order(first, second, ending)?;
-                }
+            let known = looked.region.before.row(first);
+            let later = stores & self.view.closure.row(first) & !known & !bit(first);
+            let mut left = later;
+            for _ in 0..later.count_ones() {
+                let second = least(left);
+                left = without_least(left);
+                let ending = self.cycle_by(&looked.region, first, second, Cause::Coherence)?;
+                looked.order(first, second, ending)?;
             }
         }
         Ok(())

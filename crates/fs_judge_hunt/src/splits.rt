@@ -3,9 +3,9 @@
 use crate::access::{Doing, class_of};
 use crate::endings::Outlook;
 use crate::facts::Facts;
-use crate::names::{Origin, has};
+use crate::names::{Origin, least, without_least};
 use crate::region::{Field, Region};
-use crate::rows::{Group, Row, do_meet, is_empty, join_both, no_run, without};
+use crate::rows::{Group, Row, both, do_meet, is_empty, join_both, without};
 use fs_cert_evidence::Inference;
 use std::alloc::{AllocError, Global};
 
@@ -26,11 +26,20 @@ pub(crate) struct Splitter<'a> {
     pub(crate) field: Field<'a>,
 }
 
-/// The runs of two harts in which a load agrees with a store.
+/// The runs of two harts in which a load agrees with a store: empty rows where there are none.
 #[derive(Drop)]
 struct Agreeing {
     loading: Row,
     storing: Row,
+}
+
+/// A load and a store of two harts: the runs that are left of these, and what they do, by location and word.
+#[derive(Clone, Copy)]
+struct Parties<'a> {
+    left: &'a [u64],
+    loads: &'a [Group],
+    others: &'a [u64],
+    stores: &'a [Group],
 }
 
 impl Decision {
@@ -61,21 +70,37 @@ fn push_some(
 }
 
 impl Agreeing {
-    /// Adds a class's runs, those of the first row that are in the second, where both harts have some left.
-    fn add_class(&mut self, left: &[u64], loads: &[u64], others: &[u64], stores: &[u64]) {
-        if do_meet(left, loads) && do_meet(others, stores) {
-            join_both(&mut self.loading, left, loads);
-            join_both(&mut self.storing, others, stores);
+    /// Adds a class's runs, of which both harts have some left.
+    fn add_class(
+        &mut self,
+        alloc: Global,
+        parties: Parties<'_>,
+        loads: &[u64],
+        stores: &[u64],
+    ) -> Result<(), AllocError> {
+        if self.loading.is_empty() {
+            self.loading = both(alloc, parties.left, loads)?;
+            self.storing = both(alloc, parties.others, stores)?;
+        } else {
+            join_both(&mut self.loading, parties.left, loads);
+            join_both(&mut self.storing, parties.others, stores);
         }
+        Ok(())
     }
 
-    /// Adds those of each class that is among both.
-    fn add_classes(&mut self, left: &[u64], loads: &[Group], others: &[u64], stores: &[Group]) {
-        for class in loads {
-            if let Some(other) = class_of(stores, class.key) {
-                self.add_class(left, &class.row, others, &other.row);
+    /// Adds those of each class that is among both. Mostly few classes have runs left, and none is among both.
+    fn add_classes(&mut self, alloc: Global, parties: Parties<'_>) -> Result<(), AllocError> {
+        for class in parties.loads {
+            if !do_meet(parties.left, &class.row) {
+                continue;
+            }
+            if let Some(other) = class_of(parties.stores, class.key) {
+                if do_meet(parties.others, &other.row) {
+                    self.add_class(alloc, parties, &class.row, &other.row)?;
+                }
             }
         }
+        Ok(())
     }
 }
 
@@ -210,9 +235,11 @@ impl Splitter<'_> {
         stores: u64,
     ) -> Result<(), AllocError> {
         let known = region.origin(load);
-        for store in 0..self.field.count {
-            let is_left = known == Origin::Unknown || known == Origin::From(store);
-            if is_left && has(stores, store) {
+        let mut rest = stores;
+        for _ in 0..stores.count_ones() {
+            let store = least(rest);
+            rest = without_least(rest);
+            if known == Origin::Unknown || known == Origin::From(store) {
                 self.push_from(left, region, load, store)?;
             }
         }
@@ -254,36 +281,23 @@ impl Splitter<'_> {
         load: u8,
         store: u8,
     ) -> Result<Option<Box<Region>>, AllocError> {
-        let mut agreeing = self.no_runs(load, store)?;
-        self.add_agreeing(&mut agreeing, region, load, store);
+        let (Some(loading), Some(storing)) = (self.field.doing(load), self.field.doing(store))
+        else {
+            return Ok(None);
+        };
         let (hart, other) = (self.field.owner(load), self.field.owner(store));
+        let parties = Parties {
+            left: region.row(hart),
+            loads: &loading.loads.classes,
+            others: region.row(other),
+            stores: &storing.stores.classes,
+        };
+        let mut agreeing = Agreeing {
+            loading: Vec::new(self.alloc),
+            storing: Vec::new(self.alloc),
+        };
+        agreeing.add_classes(self.alloc, parties)?;
         self.with_agreeing(region, hart, other, agreeing)
-    }
-
-    /// Adds the runs in which the load agrees with the store of another hart.
-    fn add_agreeing(self, agreeing: &mut Agreeing, region: &Region, load: u8, store: u8) {
-        let left = region.row(self.field.owner(load));
-        let others = region.row(self.field.owner(store));
-        if let Some(loading) = self.field.doing(load) {
-            if let Some(storing) = self.field.doing(store) {
-                let stores = &storing.stores.classes;
-                agreeing.add_classes(left, &loading.loads.classes, others, stores);
-            }
-        }
-    }
-
-    fn no_runs(self, load: u8, store: u8) -> Result<Agreeing, AllocError> {
-        let loading = no_run(self.alloc, self.words(load))?;
-        let storing = no_run(self.alloc, self.words(store))?;
-        Ok(Agreeing { loading, storing })
-    }
-
-    /// How many words the rows of the name's hart have.
-    fn words(self, name: u8) -> usize {
-        match self.field.hart_of(name) {
-            Some(hart) => hart.words,
-            None => 0,
-        }
     }
 
     /// The region with only these runs of the two harts, if each has one.

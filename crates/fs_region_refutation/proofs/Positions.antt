@@ -1,9 +1,9 @@
 -- Tables by positions: what they have, and that past the code there is nothing.
-use Rattle.std.proofs.Common.{◌≡◌, ℕ, ◌≤◌, ◌==◌, inl, inr, Bool, true, false, ◌&&◌, Option, None, Some, option_map, option_and_then, unwrap_or, List, [], ◌∷◌, map, length, get_or, refl, sym, ◌∙◌, ap, arith}
+use Rattle.std.proofs.Common.{◌≡◌, ℕ, ◌+◌, ◌≤◌, ◌==◌, inl, inr, Bool, true, false, not, ◌&&◌, Option, None, Some, option_map, option_and_then, unwrap_or, List, [], ◌∷◌, map, length, get_or, refl, sym, ◌∙◌, ap, arith}
 use Rattle.std.specs.Prelude.{slice_get, if◌then◌else◌}
 use Rattle.std.specs.List.{position, position_or_len}
 use Rattle.std.proofs.lemmas.Bool.{cases_lt, eqb-true, ne_eqb, lt-ltb, le-ltb}
-use Rattle.std.proofs.lemmas.List.{get_or_past}
+use Rattle.std.proofs.lemmas.List.{get_or_past, length-map}
 use Rattle.std.proofs.lemmas.List.Folds.{find_at}
 use Rattle.std.proofs.lemmas.List.FromFn.{length-map-range_with_len, get_or-map-range_with_len}
 use Rattle.std.proofs.lemmas.Option.{slice_get-get_or, slice_get_past}
@@ -20,7 +20,7 @@ use Rattle.fs_cand.proofs.RunNames.{in_code}
 use Rattle.fs_verdict_laws.specs.Local.{place_of}
 use Rattle.fs_cert_evidence.specs.Musts.{has_name, number_of}
 use Rattle.fs_cert_evidence.specs.Regions.{step_at}
-use Rattle.fs_region_refutation.specs.inner.Tables.{listed_at, name_at, is_at}
+use Rattle.fs_region_refutation.specs.inner.Tables.{listed_at, name_at, is_at, position_in}
 use Rattle.fs_region_refutation.proofs.Found.{none_at, found_below}
 
 -- ---- a table of a function
@@ -31,7 +31,35 @@ listed f n at past = elim (cases_lt at n) [
   | inr high ↦ (let long = length-map-range_with_len f 0 n in get_or_past (map f (numbers_below n)) at None (omega (arith, high, long)) ∙ sym (past high))
 ]
 
+-- ---- the first of a list by what a function makes of it
+
+first_of : {X Y : Type 0} (f : X → Y) (p : Y → Bool) (q : X → Bool) → ((x : X) → p (f x) ≡ q x) → (xs : List X)
+    → position_or_len p (map f xs) ≡ position_or_len q xs
+first_of f p q same [] = refl
+first_of f p q same (x ∷ xs) =
+    ap (λ (b : Bool). if not b then 1 + position_or_len p (map f xs) else 0) (same x)
+    ∙ ap (λ (n : ℕ). if not (q x) then 1 + n else 0) (first_of f p q same xs)
+
+position_of : {X Y : Type 0} (f : X → Y) (p : Y → Bool) (q : X → Bool) → ((x : X) → p (f x) ≡ q x) → (xs : List X)
+    → position p (map f xs) ≡ position q xs
+position_of f p q same xs = rw (first_of f p q same xs, length-map xs f) refl
+
 -- ---- the number of an operation by its name
+
+-- the position of an operation is the one
+is_position : (hart at : ℕ) (steps : List Step) (o : Operation) → is_same (position_in hart steps o) (Some at) ≡ is_at hart steps at o
+is_position hart at steps o = by_hart (is_same o.hart (Some hart)) (slice_get steps o.place)
+  where
+    by_hart : (b : Bool) (step : Option Step) → is_same (if b then option_map (λ s. s.at) step else None) (Some at)
+        ≡ (b && unwrap_or (option_map (λ s. s.at == at) step) false)
+    by_hart true None = refl
+    by_hart true (Some s) = refl
+    by_hart false step = refl
+
+pub number_among : (hart at : ℕ) (steps : List Step) (os : List Operation)
+    → position (λ p. is_same p (Some at)) (map (position_in hart steps) os) ≡ position (is_at hart steps at) os
+number_among hart at steps os =
+    position_of (position_in hart steps) (λ p. is_same p (Some at)) (is_at hart steps at) (is_position hart at steps) os
 
 -- the hart is the one, and the step has the position
 abbrev stands_at : (hart h at : ℕ) → Option Step → Bool

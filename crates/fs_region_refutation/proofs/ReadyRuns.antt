@@ -25,10 +25,10 @@ use Rattle.fs_region_refutation.specs.declared.rules.Returned.{Returned}
 use Rattle.fs_region_refutation.specs.declared.source.Sourced.{Sourced}
 use Rattle.fs_region_refutation.specs.Alone.{RunOf, Knows, execution_of}
 use Rattle.fs_region_refutation.specs.inner.Ordered.{IsOwn, Returns, number_from}
-use Rattle.fs_region_refutation.specs.inner.Tables.{IsAlone, IsReady, is_at, listed_at, name_at}
+use Rattle.fs_region_refutation.specs.inner.Tables.{IsAlone, IsReady, is_at, listed_at, name_at, position_in}
 use Rattle.fs_region_refutation.proofs.Accesses.{few_alone}
 use Rattle.fs_region_refutation.proofs.AskedRuns.{plain}
-use Rattle.fs_region_refutation.proofs.Positions.{listed, no_number, no_place, number_is}
+use Rattle.fs_region_refutation.proofs.Positions.{listed, no_number, no_place, number_among, number_is}
 
 module _ (t : Test) (hart : ℕ) (run : List Step) (c : Candidate) (is : IsAlone t hart run c) where
   pub runs_are : runs_of c (initial_words t) ≡ alone t hart run
@@ -54,7 +54,8 @@ module _ (t : Test) (hart : ℕ) (run : List Step) (c : Candidate) (is : IsAlone
 
     pub ready : (code : List Instr) (steps : List Step) (os : List Operation) (places numbers : List (Option ℕ)) → code ≡ code_of t hart
         → steps ≡ run → os ≡ c.operations → places ≡ map (place_of steps) (numbers_below (length code))
-        → numbers ≡ map (λ at. position (is_at hart steps at) os) (numbers_below (length code)) → IsReady t hart c places numbers
+        → numbers ≡ map (λ at. position (λ p. is_same p (Some at)) (map (position_in hart steps) os)) (numbers_below (length code))
+        → IsReady t hart c places numbers
     ready code steps os places numbers coded stepped made placed numbered = record {
       alone = subst (λ (ss : List Step). IsAlone t hart ss c) (sym own_run) is;
       tables = record {
@@ -64,8 +65,10 @@ module _ (t : Test) (hart : ℕ) (run : List Step) (c : Candidate) (is : IsAlone
             ∙ ap (λ (ss : List Step). place_of ss at) (stepped ∙ sym own_run);
         numbered = λ at.
             ap (λ (table : List (Option ℕ)). listed_at table at) numbered
-            ∙ listed (λ at. position (is_at hart steps at) os) (length code) at (λ past.
-            ap (λ (ss : List Step). position (is_at hart ss at) os) stepped ∙ no_number t hart run whole at (past_code past) os)
+            ∙ listed (λ at. position (λ p. is_same p (Some at)) (map (position_in hart steps) os)) (length code) at (λ past.
+            number_among hart at steps os ∙ ap (λ (ss : List Step). position (is_at hart ss at) os) stepped
+            ∙ no_number t hart run whole at (past_code past) os)
+            ∙ number_among hart at steps os
             ∙ ap (λ (ss : List Step). position (is_at hart ss at) os) (stepped ∙ sym (own_steps t hart run is.low))
             ∙ ap (λ (all : List Operation). position (is_at hart (steps_of (traces_of t hart run) hart) at) all) (made ∙ operations_are)
             ∙ number_is (alone t hart run) hart at

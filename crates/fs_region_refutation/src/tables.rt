@@ -1,12 +1,12 @@
 //! What stands where in a run: by positions of the code.
 
-ghost use Rattle.std.specs.Prelude.{◌≡◌, ◌≤◌, map, length, option_and_then, slice_get, IfOk};
+ghost use Rattle.std.specs.Prelude.{◌≡◌, ◌≤◌, Some, map, length, option_and_then, slice_get, IfOk};
 ghost use Rattle.std.specs.Option.{option_copied};
 ghost use Rattle.std.specs.List.{position};
 ghost use Rattle.fs_kinds.specs.Limits.{most_instructions, most_numbered};
-ghost use Rattle.fs_model.specs.Numbers.{numbers_below};
+ghost use Rattle.fs_model.specs.Numbers.{is_same, numbers_below};
 ghost use Rattle.fs_verdict_laws.specs.Local.{place_of};
-ghost use Rattle.fs_region_refutation.specs.inner.Tables.{is_at, listed_at};
+ghost use Rattle.fs_region_refutation.specs.inner.Tables.{listed_at, position_in};
 
 use fs_hart::Step;
 use fs_model::Operation;
@@ -52,34 +52,60 @@ pub(crate) fn places(alloc: Global, positions: usize, steps: &[Step]) -> Result<
     (0..positions).map(|at| place_of(steps, at)).collect(alloc)
 }
 
-/// Is it the operation of the hart that executes the instruction there? These are the steps of the hart's run.
-fn is_at(hart: u8, steps: &[Step], at: usize, operation: &Operation) -> bool
-    ensures { result ≡ is_at hart steps.now at operation.now }
+/// The position of the instruction that the operation executes, if it is one of the hart, whose steps these are.
+fn position_in(hart: u8, steps: &[Step], operation: &Operation) -> Option<u8>
+    ensures { result ≡ position_in hart steps.now operation.now }
 {
-    operation.hart == Some(hart)
-        && steps
-            .get(usize::from(operation.place))
-            .is_some_and(|step| usize::from(step.at) == at)
+    if operation.hart == Some(hart) {
+        let step = steps.get(usize::from(operation.place))?;
+        Some(step.at)
+    } else {
+        None
+    }
 }
 
-/// The number of the first operation of the hart that executes the instruction there.
-fn index_of(hart: u8, steps: &[Step], at: usize, operations: &[Operation]) -> Option<usize>
-    ensures { result ≡ position (is_at hart steps.now at) operations.now }
+/// That of each of these operations.
+fn positions_in(
+    alloc: Global,
+    hart: u8,
+    steps: &[Step],
+    operations: &[Operation],
+) -> Result<Table, AllocError>
+    ensures { IfOk result (λ table. table.items ≡ map (position_in hart steps.now) operations.now) }
 {
     operations
         .iter()
-        .position(|operation| is_at(hart, steps, at, operation))
+        .map(|operation| position_in(hart, steps, operation))
+        .collect(alloc)
 }
 
-fn number_of(hart: u8, steps: &[Step], at: usize, operations: &[Operation]) -> Option<u8>
-    requires { length operations.now ≤ most_numbered }
-    ensures { result ≡ position (is_at hart steps.now at) operations.now }
+/// The number of the first operation at this position.
+fn index_of(positions: &[Option<u8>], at: usize) -> Option<usize>
+    ensures { result ≡ position (λ p. is_same p (Some at)) positions.now }
 {
-    let number = index_of(hart, steps, at, operations)?;
+    positions.iter().position(|position| position.is_some_and(|position| usize::from(position)
+        == at))
+}
+
+fn number_of(positions: &[Option<u8>], at: usize) -> Option<u8>
+    requires { length positions.now ≤ most_numbered }
+    ensures { result ≡ position (λ p. is_same p (Some at)) positions.now }
+{
+    let number = index_of(positions, at)?;
     Some(number as u8)
 }
 
-/// The number of the operation that executes it, for each of so many positions.
+/// That of the first operation at it, for each of so many positions.
+fn numbers_among(alloc: Global, positions: usize, found: &[Option<u8>]) -> Result<Table, AllocError>
+    requires { length found.now ≤ most_numbered }
+    ensures { IfOk result (λ table. table.items
+        ≡ map (λ at. position (λ p. is_same p (Some at)) found.now) (numbers_below positions)) }
+{
+    (0..positions).map(|at| number_of(found, at)).collect(alloc)
+}
+
+/// The number of the operation that executes it, for each of so many positions. The cost: for each operation one step,
+/// and for each position the operations.
 pub(crate) fn numbers(
     alloc: Global,
     positions: usize,
@@ -88,10 +114,9 @@ pub(crate) fn numbers(
     operations: &[Operation],
 ) -> Result<Table, AllocError>
     requires { length operations.now ≤ most_numbered }
-    ensures { IfOk result (λ table. table.items
-        ≡ map (λ at. position (is_at hart steps.now at) operations.now) (numbers_below positions)) }
+    ensures { IfOk result (λ table. table.items ≡ map (λ at. position (λ p. is_same p (Some at))
+        (map (position_in hart steps.now) operations.now)) (numbers_below positions)) }
 {
-    (0..positions)
-        .map(|at| number_of(hart, steps, at, operations))
-        .collect(alloc)
+    let found = positions_in(alloc, hart, steps, operations)?;
+    numbers_among(alloc, positions, found.as_slice())
 }

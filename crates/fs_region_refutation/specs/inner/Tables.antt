@@ -1,5 +1,5 @@
 -- A run made ready: a candidate in which the other harts do nothing, and tables by the positions of its hart's code.
-use Rattle.std.specs.Prelude.{◌≡◌, ℕ, ◌<◌, ◌==◌, Bool, false, ◌&&◌, Option, None, Some, option_map, unwrap_or, List, [], length, slice_get}
+use Rattle.std.specs.Prelude.{◌≡◌, ℕ, ◌<◌, ◌==◌, Bool, false, ◌&&◌, if◌then◌else◌, Option, None, Some, option_map, unwrap_or, List, [], length, slice_get}
 use Rattle.std.specs.List.{slice_index_or}
 use Rattle.fs_kinds.specs.declared.reason.OperationName.{OperationName as Name}
 use Rattle.fs_model.specs.declared.operation.Operation.{Operation}
@@ -28,6 +28,10 @@ name_at hart at = record { hart = hart; at = at }
 abbrev pub is_at : ℕ → List Step → ℕ → Operation → Bool
 is_at hart steps at o =
     is_same o.hart (Some hart) && unwrap_or (option_map (λ s. s.at == at) (slice_get steps o.place)) false
+
+-- the position of the instruction that an operation of the hart executes
+abbrev pub position_in : ℕ → List Step → Operation → Option ℕ
+position_in hart steps o = if is_same o.hart (Some hart) then option_map (λ s. s.at) (slice_get steps o.place) else None
 
 -- at each position the place of the step that executes its instruction, and the number of the operation that this is
 pub record AreTables (t : Test) (hart : ℕ) (run : List Step) (places numbers : List (Option ℕ)) : Type 0 where
