@@ -6,6 +6,7 @@ ghost use Rattle.fs_kinds.specs.declared.fault.Fault.TheVariants.{Memory};
 use crate::doings::doings;
 use crate::forms::forms;
 use crate::rules::{Asked, no_fence};
+use fs_instr::Instr;
 use fs_judge_hunt::{Form, Forwarded, Hart, Numbered, Row, Rule, no_run, put, words_for, written};
 use fs_kinds::{Fault, List, OperationName};
 use fs_model::Test;
@@ -41,6 +42,7 @@ fn rules(
     alloc: Global,
     words: usize,
     runs: &[Lone],
+    code: &[Instr],
     forms: &[Form],
     names: &[Numbered],
 ) -> Result<(Vec<Rule>, Vec<Forwarded>), Fault>
@@ -50,12 +52,21 @@ fn rules(
     let asked = Asked {
         words,
         runs,
+        code,
         forms,
         bottom: &bottom,
     };
     let rules = asked.rules(alloc, names)?;
     let forwarded = asked.forwarded(alloc, names, &rules)?;
     Ok((rules, forwarded))
+}
+
+/// The code of the hart; none where it is no hart.
+fn code_of(test: &Test, hart: u8) -> &[Instr] {
+    match test.codes.as_slice().get(usize::from(hart)) {
+        Some(code) => code.as_slice(),
+        None => &[],
+    }
 }
 
 /// What the runs of the hart of this number do. The names are all of the test's. The cost: for each name of the hart
@@ -75,7 +86,8 @@ fn hart_of(
     let names = names_of(alloc, all_names, hart)?;
     let doings = doings(alloc, test, words, runs, &names)?;
     let forms = forms(alloc, words, runs)?;
-    let (rules, forwarded) = rules(alloc, words, runs, &forms, &names)?;
+    let code = code_of(test, hart);
+    let (rules, forwarded) = rules(alloc, words, runs, code, &forms, &names)?;
     Ok(Hart {
         words,
         all: all_runs(alloc, words, runs.len())?,

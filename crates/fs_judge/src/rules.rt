@@ -3,6 +3,7 @@
 ghost use Rattle.std.specs.Prelude.{IsOkUnless};
 ghost use Rattle.fs_kinds.specs.declared.fault.Fault.TheVariants.{Memory};
 
+use fs_instr::Instr;
 use fs_judge_hunt::{Form, Forwarded, Numbered, Row, Rule, has_all, is_empty, join, no_run};
 use fs_kinds::{Fault, OperationName, Placement};
 use fs_region_refutation::{Lone, Source, Sourced};
@@ -13,6 +14,8 @@ use std::alloc::{AllocError, Global};
 pub(crate) struct Asked<'a> {
     pub(crate) words: usize,
     pub(crate) runs: &'a [Lone],
+    /// The hart's.
+    pub(crate) code: &'a [Instr],
     pub(crate) forms: &'a [Form],
     /// Without a fence.
     pub(crate) bottom: &'a Placement,
@@ -23,6 +26,35 @@ pub(crate) fn no_fence(alloc: Global) -> Result<Placement, Fault>
     ensures err { IsOkUnless result Memory }
 {
     Placement::bottom(alloc, &[])
+}
+
+/// May it load?
+fn is_load(instr: &Instr) -> bool {
+    matches!(
+        instr,
+        Instr::Lw { .. } | Instr::Lr { .. } | Instr::Amo { .. }
+    )
+}
+
+/// May it store?
+fn is_store(instr: &Instr) -> bool {
+    matches!(
+        instr,
+        Instr::Sw { .. } | Instr::Sc { .. } | Instr::Amo { .. }
+    )
+}
+
+/// May the rule of this number hold between these two, in some run? Most don't by what the two are.
+fn may_hold(rule: u8, first: &Instr, second: &Instr) -> bool {
+    match rule {
+        1 | 11 | 13 => is_store(second),
+        2 => is_load(first) && is_load(second),
+        3 => matches!(first, Instr::Amo { .. } | Instr::Sc { .. }) && is_load(second),
+        8 => matches!(first, Instr::Lr { .. }) && matches!(second, Instr::Sc { .. }),
+        9 => second.address_source().is_some(),
+        10 => second.data_source().is_some(),
+        _ => true,
+    }
 }
 
 fn sourced(name: OperationName, source: Option<OperationName>) -> Sourced {
@@ -58,6 +90,15 @@ impl Asked<'_> {
         Ok(row)
     }
 
+    /// May it hold between these two names of the hart?
+    fn may_hold(&self, rule: u8, first: OperationName, second: OperationName) -> bool {
+        let (first, second) = (usize::from(first.at), usize::from(second.at));
+        match (self.code.get(first), self.code.get(second)) {
+            (Some(first), Some(second)) => may_hold(rule, first, second),
+            _ => false,
+        }
+    }
+
     /// Adds the rules from the first name to the second, but for 4 and 12.
     fn add_pair(
         &self,
@@ -67,7 +108,7 @@ impl Asked<'_> {
         second: Numbered,
     ) -> Result<(), AllocError> {
         for number in 1..14u8 {
-            if number == 4 || number == 12 {
+            if number == 4 || number == 12 || !self.may_hold(number, first.name, second.name) {
                 continue;
             }
             let source = if number == 3 { Some(first.name) } else { None };
