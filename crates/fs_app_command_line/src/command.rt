@@ -730,11 +730,22 @@ pub fn read_request<'a>(alloc: Global, words: &'a [String]) -> Result<Request<'a
 
 /// What the words match.
 fn matches_of<'a>(alloc: Global, words: &'a [String]) -> Result<ArgMatches<'a>, Error> {
-    let program = whole_command(alloc, true, asks_for_sites(words))?;
+    let program = whole_command(alloc, named(words), true, asks_for_sites(words))?;
     match program.try_get_matches_from(words) {
         Ok(matches) => Ok(matches),
         Err(error) => matches_of_one(alloc, words, error),
     }
+}
+
+/// The command that the first word behind the program's name is.
+fn named(words: &[String]) -> Option<&'static str> {
+    let first = words.get(1)?;
+    for name in COMMANDS {
+        if *name == first.as_str() {
+            return Some(*name);
+        }
+    }
+    None
 }
 
 /// Is `--sites` one of the words before `--`?
@@ -759,7 +770,7 @@ fn matches_of_one<'a>(
     if !error.use_stderr() {
         return Err(error);
     }
-    match whole_command(alloc, false, false)?.try_get_matches_from(words) {
+    match whole_command(alloc, named(words), false, false)?.try_get_matches_from(words) {
         Ok(matches) => Ok(matches),
         Err(other) => Err(clearer(error, other)),
     }
@@ -1750,18 +1761,32 @@ const CONFLICTS: &[Conflict] = &[
     },
 ];
 
-/// The program; `audit`, and `solve` and `check`, each take one file or any number.
+/// The program; `audit`, and `solve` and `check`, each take one file or any number. Where a command is named only that
+/// one has its arguments, since words behind it are matched by no other.
 fn whole_command<'a>(
     alloc: Global,
+    named: Option<&str>,
     audits_many: bool,
     has_sites: bool,
 ) -> Result<Command<'a>, AllocError> {
     let mut program = bare_program(alloc);
     for name in COMMANDS {
-        let many = takes_many(name, audits_many, has_sites);
-        program = with_command(alloc, program, name, many)?;
+        program = if is_asked(named, name) {
+            let many = takes_many(name, audits_many, has_sites);
+            with_command(alloc, program, name, many)?
+        } else {
+            program.subcommand(bare_command(alloc, name))?
+        };
     }
     Ok(program)
+}
+
+/// Is this the named command, or is none named?
+fn is_asked(named: Option<&str>, name: &str) -> bool {
+    match named {
+        Some(named) => named == name,
+        None => true,
+    }
 }
 
 /// Does the command of this name take any number of files?
@@ -1877,7 +1902,7 @@ fn argument<'a>(alloc: Global, parameter: &Parameter, many: bool) -> Arg<'a> {
 
 /// The script by which the shell completes the words of a command line. The error is want of memory.
 pub fn completion_script(alloc: Global, shell: Shell) -> Result<String, AllocError> {
-    script(alloc, &whole_command(alloc, true, false)?, shell)
+    script(alloc, &whole_command(alloc, None, true, false)?, shell)
 }
 
 /// A word that must be there.
