@@ -9,7 +9,7 @@ use crate::program::{Voice, say_notes};
 use crate::sites::{MOST_ROUNDS, blame, failed, read_tests};
 use fs_app_command_line::{AuditSites, MOST_NODES};
 use fs_app_io::{Output, Source, sources};
-use fs_app_sites::check_prices;
+use fs_app_sites::{Limits, check_prices};
 use fs_app_sites_check_and_audit::run_audit_sites;
 use fs_app_test::Papers;
 use fs_kinds::Fault;
@@ -27,7 +27,7 @@ pub(crate) fn answer_audit_sites<'a, R: Files + Input + Eprint + AllocGlobal>(
     papers.read_prices(rt, audit.prices)?;
     check_prices(rt.alloc(), &papers.prices.bytes)?;
     let sources = sources(rt, &audit.files)?;
-    let mut blamed = Papers::new(rt.alloc(), papers.forms);
+    let mut blamed = Papers::new(rt.alloc(), papers.forms, papers.inferences);
     match audited(rt, audit, &sources, &papers.prices.bytes, &mut blamed) {
         Ok(output) => {
             say_notes(rt, voice, blamed.notes.as_str());
@@ -49,15 +49,13 @@ fn audited<'b, R: Files + Input + AllocGlobal>(
         × IsAudited audit.now.json files prices.now (string_bytes output.text) output.status) }
 {
     let tests = read_tests(rt, sources, false, blamed)?;
-    let steps = audit.nodes.clamp(1, MOST_NODES) as usize;
-    match run_audit_sites(
-        rt.alloc(),
-        &tests.files,
-        prices,
-        audit.json,
-        MOST_ROUNDS,
-        steps,
-    ) {
+    let limits = Limits {
+        workers: 1,
+        rounds: MOST_ROUNDS,
+        steps: audit.nodes.clamp(1, MOST_NODES) as usize,
+        inferences: blamed.inferences,
+    };
+    match run_audit_sites(rt.alloc(), &tests.files, prices, audit.json, limits) {
         Ok(output) => Ok(output),
         Err(fault) => {
             blame(rt.alloc(), sources, &tests, prices, fault, blamed)?;

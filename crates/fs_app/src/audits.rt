@@ -9,7 +9,9 @@ ghost use Rattle.fs_app_audit_json_and_why.specs.Why.{IsAuditWhy};
 use crate::failure::Failure;
 use crate::program::{Voice, mended, refused, report};
 use crate::telling::{telling_of, with_below};
-use fs_app_audit::{Found, audit_file, blocks_of, blocks_output, run_anew, run_audit, run_written};
+use fs_app_audit::{
+    Found, Limits, audit_file, blocks_of, blocks_output, run_anew, run_audit, run_written,
+};
 use fs_app_audit_json_and_why::{
     FoundObject, object_of_file, objects_of, objects_output, why_audit,
 };
@@ -41,7 +43,7 @@ struct Asked<'a> {
     prices: &'a [u8],
     is_anew: bool,
     is_json: bool,
-    limit: usize,
+    limits: Limits,
     /// Whether messages are wanted.
     explains: bool,
     forms: Forms,
@@ -121,12 +123,15 @@ fn is_alone(word: &str, files: &[Source]) -> bool {
     }
 }
 
-/// The limit of nodes. The command line has no other numbers; here it is said once more for the proof.
-fn limit_of(audit: &Audit<'_>) -> usize
-    ensures least { 1 ≤ result }
-    ensures most { result ≤ 1000000 }
+/// How much a search may do. The command line has no other numbers of nodes; here it is said once more for the proof.
+fn limits_of(audit: &Audit<'_>, inferences: usize) -> Limits
+    ensures least { 1 ≤ result.nodes }
+    ensures most { result.nodes ≤ 1000000 }
 {
-    audit.nodes.clamp(1, MOST_NODES) as usize
+    Limits {
+        nodes: audit.nodes.clamp(1, MOST_NODES) as usize,
+        inferences,
+    }
 }
 
 // ---- one file
@@ -142,9 +147,9 @@ fn answer_alone<'a, R: Files + Input + AllocGlobal>(
 {
     papers.read_test(rt, word)?;
     papers.read_prices(rt, audit.prices)?;
-    let limit = limit_of(audit);
-    let said = audited(rt.alloc(), papers, audit.write, audit.anew, limit)?;
-    let below = told_below(rt.alloc(), telling_of(audit.why), papers, limit)?;
+    let limits = limits_of(audit, papers.inferences);
+    let said = audited(rt.alloc(), papers, audit.write, audit.anew, limits)?;
+    let below = told_below(rt.alloc(), telling_of(audit.why), papers, limits)?;
     let output = with_below(said, &below)?;
     Ok(output)
 }
@@ -154,16 +159,16 @@ fn told_below(
     alloc: Global,
     asked: Option<Telling>,
     papers: &Papers<'_>,
-    limit: usize,
+    limits: Limits,
 ) -> Result<String, Fault>
-    requires least { 1 ≤ limit }
-    requires most { limit ≤ 1000000 }
+    requires least { 1 ≤ limits.nodes }
+    requires most { limits.nodes ≤ 1000000 }
     ensures { IfOk result (λ text. IsToldBy asked
         (λ telling. IsAuditWhy telling papers.now.test.bytes.items papers.now.prices.bytes.items) (string_bytes text)) }
 {
     let (test, prices) = (&papers.test.bytes, &papers.prices.bytes);
     match asked {
-        Some(telling) => why_audit(alloc, telling, test, prices, limit),
+        Some(telling) => why_audit(alloc, telling, test, prices, limits),
         None => Ok(String::new(alloc)),
     }
 }
@@ -204,7 +209,12 @@ fn mend_in_place<'a, R: Files + Input + Eprint + AllocGlobal>(
     papers.read_test(rt, word)?;
     papers.read_prices(rt, audit.prices)?;
     let (test, prices) = (&papers.test.bytes, &papers.prices.bytes);
-    let written = run_written(rt.alloc(), test, prices, limit_of(audit))?;
+    let written = run_written(
+        rt.alloc(),
+        test,
+        prices,
+        limits_of(audit, papers.inferences),
+    )?;
     if !keeps(test, written.text.as_bytes()) {
         return Ok(not_mended(rt, written.status));
     }
@@ -252,22 +262,22 @@ fn audited(
     papers: &Papers<'_>,
     is_mended: bool,
     is_anew: bool,
-    limit: usize,
+    limits: Limits,
 ) -> Result<Output, Fault>
-    requires least { 1 ≤ limit }
-    requires most { limit ≤ 1000000 }
+    requires least { 1 ≤ limits.nodes }
+    requires most { limits.nodes ≤ 1000000 }
     ensures answer { IfOk result (λ output. IsAuditText is_mended is_anew papers.now.test.bytes.items
         papers.now.prices.bytes.items (string_bytes output.text) output.status) }
     ensures fault { IfErr result
-        (IsAuditFault is_mended is_anew papers.now.test.bytes.items papers.now.prices.bytes.items limit) }
+        (IsAuditFault is_mended is_anew papers.now.test.bytes.items papers.now.prices.bytes.items limits.nodes) }
 {
     let (test, prices) = (&papers.test.bytes, &papers.prices.bytes);
     if is_mended {
-        run_written(alloc, test, prices, limit)
+        run_written(alloc, test, prices, limits)
     } else if is_anew {
-        Ok(run_anew(alloc, test, prices, limit)?.output)
+        Ok(run_anew(alloc, test, prices, limits)?.output)
     } else {
-        Ok(run_audit(alloc, test, prices, limit)?.output)
+        Ok(run_audit(alloc, test, prices, limits)?.output)
     }
 }
 
@@ -286,7 +296,7 @@ fn answer_files<'a, R: Files + Input + Eprint + AllocGlobal + Threads + Sync>(
 {
     papers.read_prices(rt, audit.prices)?;
     let _table = read_prices(rt.alloc(), &papers.prices.bytes)?;
-    let asked = asked_of(audit, voice, papers.forms, &papers.prices.bytes);
+    let asked = asked_of(audit, voice, papers);
     let batch = audit_all(rt, files, audit.jobs, asked)?;
     let Batch {
         files: found,
@@ -313,7 +323,7 @@ fn answer_objects<'a, R: Files + Input + Eprint + AllocGlobal + Threads + Sync>(
 {
     papers.read_prices(rt, audit.prices)?;
     let _table = read_prices(rt.alloc(), &papers.prices.bytes)?;
-    let asked = asked_of(audit, voice, papers.forms, &papers.prices.bytes);
+    let asked = asked_of(audit, voice, papers);
     let batch = audit_all(rt, files, audit.jobs, asked)?;
     let Batch {
         objects,
@@ -328,15 +338,15 @@ fn answer_objects<'a, R: Files + Input + Eprint + AllocGlobal + Threads + Sync>(
     Ok(output)
 }
 
-/// What is asked of each file, at these prices.
-fn asked_of<'p>(audit: &Audit<'_>, voice: Voice, forms: Forms, prices: &'p [u8]) -> Asked<'p> {
+/// What is asked of each file, at the prices that were read.
+fn asked_of<'p>(audit: &Audit<'_>, voice: Voice, papers: &'p Papers<'_>) -> Asked<'p> {
     Asked {
-        prices,
+        prices: &papers.prices.bytes,
         is_anew: audit.anew,
         is_json: audit.json,
-        limit: limit_of(audit),
+        limits: limits_of(audit, papers.inferences),
         explains: voice.explains,
-        forms,
+        forms: papers.forms,
     }
 }
 
@@ -435,14 +445,17 @@ impl<'a> Batch<'a> {
             self.add_message(message_of_file(alloc, name, &file));
         }
         let file = file.map(|plain| plain.text);
-        let limit = asked.limit.clamp(1, MOST_NODES as usize);
+        let limits = Limits {
+            nodes: asked.limits.nodes.clamp(1, MOST_NODES as usize),
+            inferences: asked.limits.inferences,
+        };
         if asked.is_json {
-            let found = object_of_file(alloc, name, file, asked.prices, asked.is_anew, limit)?;
+            let found = object_of_file(alloc, name, file, asked.prices, asked.is_anew, limits)?;
             self.objects.push(found)?;
             return Ok(());
         }
         let file = file.map_err(|why| why.fault());
-        let found = audit_file(alloc, name, file, asked.prices, asked.is_anew, limit)?;
+        let found = audit_file(alloc, name, file, asked.prices, asked.is_anew, limits)?;
         self.files.push(found)?;
         Ok(())
     }

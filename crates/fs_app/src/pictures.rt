@@ -56,6 +56,7 @@ fn pictures_of(
     telling: Telling,
     line: &Line,
     test: &[u8],
+    inferences: usize,
 ) -> Result<Vec<Picture>, Fault> {
     let stem = stem_of(line.name.as_str());
     match (line.said.kind, &line.said.witness) {
@@ -63,7 +64,7 @@ fn pictures_of(
             let (choices, order) = (witness.choices.as_slice(), witness.order.as_slice());
             allowed_pictures(alloc, stem, test, choices, order)
         }
-        (Kind::Forbidden, _) => forbidden_pictures(alloc, stem, telling, test),
+        (Kind::Forbidden, _) => forbidden_pictures(alloc, stem, telling, test, inferences),
         _ => Ok(Vec::new(alloc)),
     }
 }
@@ -74,10 +75,11 @@ pub(crate) fn draw_tests<R: Files + AllocGlobal>(
     folder: &str,
     why: Why<'_>,
     judged: &Judged,
+    inferences: usize,
 ) -> Result<(), Fault> {
     for (number, line) in judged.lines.iter().enumerate() {
         let test = test_at(&judged.tests, number);
-        let pictures = pictures_of(rt.alloc(), drawn(why), line, test)?;
+        let pictures = pictures_of(rt.alloc(), drawn(why), line, test, inferences)?;
         write_pictures(rt, folder, stem_of(line.name.as_str()), &pictures)?;
     }
     Ok(())

@@ -36,7 +36,7 @@ use fs_app_io::{
 use fs_app_place_and_order::{run_order, run_place};
 use fs_app_plain::{Forms, in_file, widened};
 use fs_app_sites::{run_order_sites, run_place_sites};
-use fs_app_solve_and_check::{Checked, Found, run_check, run_solve, run_solve_alone};
+use fs_app_solve_and_check::{Checked, Found, Limits, run_check, run_solve, run_solve_alone};
 use fs_app_test::{
     Expecting, Judged, Line, ListError, Papers, Wants, fault_object, in_width, judge_files,
     read_rows, test_objects, test_report, vacuous_note,
@@ -130,7 +130,7 @@ fn status_of_run<
         return Err(Failure::NoPlace);
     }
     let voice = Voice::of(&request, is_terminal);
-    let mut papers = Papers::new(rt.alloc(), forms_of(&request));
+    let mut papers = Papers::new(rt.alloc(), forms_of(&request), request.work as usize);
     match answer(rt, &request.task, voice, &mut papers) {
         Ok(output) => print_answer(rt, &request.task, output, voice, &papers),
         Err(fault) => {
@@ -381,7 +381,7 @@ fn answer<'a, R: Files + Input + Eprint + AllocGlobal + Clock + Threads + Wait +
         Task::Test(test) => answer_test(rt, test, voice, papers),
         Task::States(states) => match states.log {
             Some(path) => answer_log(rt, states, path, voice, papers),
-            None => answer_states(rt, states, voice, papers.forms),
+            None => answer_states(rt, states, voice, papers.forms, papers.inferences),
         },
         Task::Place(place) => answer_place(rt, place, papers),
         Task::Order(order) => answer_order(rt, order, papers),
@@ -408,7 +408,14 @@ fn answer_test<'a, R: Files + Input + Eprint + AllocGlobal + Threads + Sync>(
 {
     match test.expect {
         Some(Expectations::List(path)) => answer_listed(rt, test, path, voice, papers),
-        _ => judged_tests(rt, test, voice, papers.forms, &mut Expecting::Comments),
+        _ => judged_tests(
+            rt,
+            test,
+            voice,
+            papers.forms,
+            &mut Expecting::Comments,
+            papers.inferences,
+        ),
     }
 }
 
@@ -427,7 +434,14 @@ fn answer_listed<'a, R: Files + Input + Eprint + AllocGlobal + Threads + Sync>(
     match expecting_of(rt.alloc(), &papers.evidence.bytes) {
         Ok(expecting) => {
             let mut expecting = expecting;
-            judged_tests(rt, test, voice, papers.forms, &mut expecting)
+            judged_tests(
+                rt,
+                test,
+                voice,
+                papers.forms,
+                &mut expecting,
+                papers.inferences,
+            )
         }
         Err(ListError::Fault(fault)) => Err(fault),
         Err(error) => {
@@ -472,6 +486,7 @@ fn judged_tests<R: Files + Input + Eprint + AllocGlobal + Threads + Sync>(
     voice: Voice,
     forms: Forms,
     expecting: &mut Expecting<'_>,
+    inferences: usize,
 ) -> Result<Output, Fault>
     ensures { IfOk result (AnswersTest test.now) }
 {
@@ -480,13 +495,14 @@ fn judged_tests<R: Files + Input + Eprint + AllocGlobal + Threads + Sync>(
         notes: test.json,
         tests: telling_of(test.why).is_some() || test.dot.is_some(),
         forms,
+        inferences,
     };
     let files = sources(rt, &test.files)?;
     let judged = judge_files(rt, &files, test.jobs, wants, expecting)?;
     let not_met = expecting.not_met(rt.alloc())?;
-    let output = tests_output(rt.alloc(), test, &judged, not_met.is_empty())?;
+    let output = tests_output(rt.alloc(), test, &judged, not_met.is_empty(), inferences)?;
     if let Some(folder) = test.dot {
-        draw_tests(rt, folder, test.why, &judged)?;
+        draw_tests(rt, folder, test.why, &judged, inferences)?;
     }
     for message in &judged.messages {
         tell(rt, message);
@@ -504,11 +520,12 @@ fn tests_output(
     test: &Test<'_>,
     judged: &Judged,
     are_there: bool,
+    inferences: usize,
 ) -> Result<Output, Fault>
     requires { AreJudged judged.now.lines.items (map (λ test. test.items) judged.now.tests.items) }
     ensures { IfOk result (AnswersTest test.now) }
 {
-    let output = lines_output(alloc, test, judged)?;
+    let output = lines_output(alloc, test, judged, inferences)?;
     if are_there || test.expect.is_none() {
         return Ok(output);
     }
@@ -516,12 +533,23 @@ fn tests_output(
 }
 
 /// The lines in print, and what is told below them.
-fn lines_output(alloc: Global, test: &Test<'_>, judged: &Judged) -> Result<Output, Fault>
+fn lines_output(
+    alloc: Global,
+    test: &Test<'_>,
+    judged: &Judged,
+    inferences: usize,
+) -> Result<Output, Fault>
     requires { AreJudged judged.now.lines.items (map (λ test. test.items) judged.now.tests.items) }
     ensures { IfOk result (AnswersLines test.now) }
 {
     let said = said_output(alloc, test, &judged.lines)?;
-    let below = tests_why(alloc, telling_of(test.why), &judged.lines, &judged.tests)?;
+    let below = tests_why(
+        alloc,
+        telling_of(test.why),
+        &judged.lines,
+        &judged.tests,
+        inferences,
+    )?;
     let output = with_below(said, &below)?;
     Ok(output)
 }
@@ -785,11 +813,14 @@ fn found<R: Eprint + AllocGlobal + Clock + Threads + Wait + Sync>(
     let (test, prices) = (&papers.test.bytes, &papers.prices.bytes);
     // the command line has no other numbers; here it is said once more for the proof
     let workers = solve.workers.clamp(1, MOST_WORKERS);
-    let limit = solve.nodes.clamp(1, MOST_NODES) as usize;
+    let limits = Limits {
+        nodes: solve.nodes.clamp(1, MOST_NODES) as usize,
+        inferences: papers.inferences,
+    };
     if workers == 1 {
-        return run_solve_alone(rt.alloc(), test, prices, limit, progress);
+        return run_solve_alone(rt.alloc(), test, prices, limits, progress);
     }
-    run_solve(rt, rt.alloc(), test, prices, workers, limit, progress)
+    run_solve(rt, rt.alloc(), test, prices, workers, limits, progress)
 }
 
 fn answer_check<'a, R: Files + Input + AllocGlobal>(

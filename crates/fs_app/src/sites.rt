@@ -51,7 +51,7 @@ pub(crate) fn answer_sites<'a, R: Files + Input + Eprint + AllocGlobal + Threads
     papers.read_prices(rt, sites.prices)?;
     check_prices(rt.alloc(), &papers.prices.bytes)?;
     let sources = sources(rt, &sites.files)?;
-    let mut blamed = Papers::new(rt.alloc(), papers.forms);
+    let mut blamed = Papers::new(rt.alloc(), papers.forms, papers.inferences);
     match solved(
         rt,
         sites,
@@ -96,9 +96,9 @@ fn solved<'b, R: Files + Input + Eprint + AllocGlobal + Threads + Sync>(
         × IsSolved sites.now.json tests prices.now (string_bytes solved.output.text) solved.output.status) }
 {
     let tests = read_tests(rt, sources, sites.free, blamed)?;
-    match answered(rt, sites, &tests, prices) {
+    match answered(rt, sites, &tests, prices, blamed.inferences) {
         Ok(solved) => {
-            note_needs(rt, sites, voice, &tests, prices);
+            note_needs(rt, sites, voice, &tests, prices, blamed.inferences);
             Ok(solved)
         }
         Err(fault) => {
@@ -115,6 +115,7 @@ fn note_needs<R: Files + Eprint + AllocGlobal>(
     voice: Voice,
     tests: &Tests,
     prices: &[u8],
+    inferences: usize,
 ) {
     if !voice.tells_needs {
         return;
@@ -123,6 +124,7 @@ fn note_needs<R: Files + Eprint + AllocGlobal>(
         workers: 1,
         rounds: MOST_ROUNDS,
         steps: sites.nodes.clamp(1, MOST_NODES) as usize,
+        inferences,
     };
     if let Ok(text) = needs_text(rt.alloc(), tests, prices, limits) {
         tell(rt, &text.as_str());
@@ -135,6 +137,7 @@ fn answered<R: Files + AllocGlobal + Threads + Sync>(
     sites: &Sites<'_>,
     tests: &Tests,
     prices: &[u8],
+    inferences: usize,
 ) -> Result<Solved, Fault>
     ensures { IfOk result (λ solved.
         IsSolved sites.now.json tests.now prices.now (string_bytes solved.output.text) solved.output.status) }
@@ -143,6 +146,7 @@ fn answered<R: Files + AllocGlobal + Threads + Sync>(
         workers: sites.workers.clamp(1, MOST_WORKERS),
         rounds: MOST_ROUNDS,
         steps: sites.nodes.clamp(1, MOST_NODES) as usize,
+        inferences,
     };
     match sites.certificate {
         Some(path) => certified(rt, path, tests, prices, sites.json, limits),
@@ -208,14 +212,14 @@ pub(crate) fn blame<'b>(
     fault: Fault,
     blamed: &mut Papers<'b>,
 ) -> Result<(), Fault> {
-    *blamed = Papers::new(alloc, blamed.forms);
+    *blamed = Papers::new(alloc, blamed.forms, blamed.inferences);
     if !matches!(
         fault,
         Fault::TooManyTraces | Fault::Astray { .. } | Fault::TooManyCandidates
     ) {
         return Ok(());
     }
-    if let Some(number) = first_at_fault(alloc, tests, prices, fault) {
+    if let Some(number) = first_at_fault(alloc, tests, prices, fault, blamed.inferences) {
         if let (Some(source), Some(file)) = (sources.get(number), tests.files.get(number)) {
             blamed.test = Paper {
                 name: source.name.as_str(),
@@ -239,7 +243,7 @@ pub(crate) fn answer_check_sites<'a, R: Files + Input + Eprint + AllocGlobal>(
     check_prices(rt.alloc(), &papers.prices.bytes)?;
     papers.read_evidence(rt, check.certificate, CERTIFICATE_LIMIT)?;
     let sources = sources(rt, &check.files)?;
-    let mut blamed = Papers::new(rt.alloc(), papers.forms);
+    let mut blamed = Papers::new(rt.alloc(), papers.forms, papers.inferences);
     match checked(rt, &sources, check.free, papers, &mut blamed) {
         Ok(checked) => {
             say_notes(rt, voice, blamed.notes.as_str());
@@ -413,7 +417,7 @@ fn object_of(alloc: Global, fault: Fault, blamed: &Papers<'_>) -> Result<Option<
 
 /// That of a second site label at a place.
 fn clash_object(alloc: Global, fault: Fault, line: usize, name: &str) -> Result<String, Fault> {
-    let mut said = test_file(alloc, name, Err(fault))?;
+    let mut said = test_file(alloc, name, Err(fault), 0)?;
     said.note = Some(Note {
         line: Some(line),
         column: None,

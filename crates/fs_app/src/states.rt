@@ -22,6 +22,7 @@ struct Asked {
     shown: Shown,
     voice: Voice,
     forms: Forms,
+    inferences: usize,
 }
 
 /// The states of each file, in their order. The fault of one is said on standard error, as JSON also where the states
@@ -31,6 +32,7 @@ pub(crate) fn answer_states<R: Files + Input + Eprint + AllocGlobal>(
     states: &States<'_>,
     voice: Voice,
     forms: Forms,
+    inferences: usize,
 ) -> Result<Output, Fault> {
     let mut output = nothing(rt);
     let asked = Asked {
@@ -42,6 +44,7 @@ pub(crate) fn answer_states<R: Files + Input + Eprint + AllocGlobal>(
         },
         voice,
         forms,
+        inferences,
     };
     let files = sources(rt, &states.files)?;
     for source in &files {
@@ -66,7 +69,7 @@ fn add_states<'a, R: Files + Input + Eprint + AllocGlobal>(
     asked: Asked,
     output: &mut Output,
 ) -> Result<(), Fault> {
-    let mut papers = Papers::new(rt.alloc(), asked.forms);
+    let mut papers = Papers::new(rt.alloc(), asked.forms, asked.inferences);
     papers.fences = fences;
     match read_states(rt, source, asked.shown, &mut papers) {
         Ok(block) => {
@@ -107,7 +110,13 @@ fn read_states<'a, R: Files + Input + AllocGlobal>(
     papers.read_source(rt, source)?;
     let mut shown = shown;
     shown.guarded = papers.is_guarded;
-    run_states(rt.alloc(), &papers.test.bytes, papers.fences, shown)
+    run_states(
+        rt.alloc(),
+        &papers.test.bytes,
+        papers.fences,
+        shown,
+        papers.inferences,
+    )
 }
 
 /// Says the fault of a file on standard error, unless it ends the run.
@@ -165,7 +174,7 @@ pub(crate) fn answer_log<'a, R: Files + Input + Eprint + AllocGlobal>(
     match read_log(rt.alloc(), &papers.evidence.bytes) {
         Ok(log) => {
             let files = sources(rt, &states.files)?;
-            compare_files(rt, &files, &states.fences, &log, voice, papers.forms)
+            compare_files(rt, &files, &states.fences, &log, voice, papers)
         }
         Err(LogError::Fault(fault)) => Err(fault),
         Err(error) => {
@@ -184,12 +193,12 @@ fn compare_files<'a, R: Files + Input + Eprint + AllocGlobal>(
     fences: &'a [String],
     log: &Log<'_>,
     voice: Voice,
-    forms: Forms,
+    given: &Papers<'_>,
 ) -> Result<Output, Fault> {
     let mut output = nothing(rt);
     let mut names = Vec::new(rt.alloc());
     for source in files {
-        if let Some(compared) = compare_file(rt, source, fences, log, voice, forms)? {
+        if let Some(compared) = compare_file(rt, source, fences, log, voice, given)? {
             output.text.push_str(compared.text.as_str())?;
             output.status = worse(output.status, compared.status);
             names.push(compared.name)?;
@@ -224,9 +233,9 @@ fn compare_file<'a, R: Files + Input + Eprint + AllocGlobal>(
     fences: &'a [String],
     log: &Log<'_>,
     voice: Voice,
-    forms: Forms,
+    given: &Papers<'_>,
 ) -> Result<Option<Compared>, Fault> {
-    let mut papers = Papers::new(rt.alloc(), forms);
+    let mut papers = Papers::new(rt.alloc(), given.forms, given.inferences);
     papers.fences = fences;
     match compared_file(rt, source, log, &mut papers) {
         Ok(compared) => Ok(Some(compared)),
@@ -252,7 +261,13 @@ fn compared_file<'a, R: Files + Input + AllocGlobal>(
         let test = read_test(rt.alloc(), &papers.test.bytes)?;
         refuse_unsigned(log, test.name.as_str())?;
     }
-    compare(rt.alloc(), log, &papers.test.bytes, papers.fences)
+    compare(
+        rt.alloc(),
+        log,
+        &papers.test.bytes,
+        papers.fences,
+        papers.inferences,
+    )
 }
 
 /// Refuses the first state of the test that has a number which no word is, extended by its sign to 64 bits.

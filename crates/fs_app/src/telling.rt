@@ -174,13 +174,14 @@ fn push_forbidden(
     line: &Line,
     test: &[u8],
     text: &mut String,
+    inferences: usize,
 ) -> Result<(), Fault>
     requires judged { IsJudged line.now test.now }
     requires forbidden { is_forbidden line.now.said.kind ≡ true }
     ensures { OnOk result ((told : List ℕ) × IsForbiddenBlock telling (shown_name line.now) test.now told
         × (string_bytes text.new ≡ string_bytes text.old ++ told)) }
 {
-    match why_forbidden(alloc, telling, test)? {
+    match why_forbidden(alloc, telling, test, inferences)? {
         Some(told) => Ok(push_some(alloc, line, told.as_str(), text)?),
         None => unreachable!(),
     }
@@ -193,6 +194,7 @@ fn push_told(
     line: &Line,
     test: &[u8],
     text: &mut String,
+    inferences: usize,
 ) -> Result<(), Fault>
     requires { IsJudged line.now test.now }
     ensures { OnOk result ((told : List ℕ) × IsTestTold telling line.now test.now told
@@ -202,7 +204,7 @@ fn push_told(
         return push_shown(alloc, line, test, text);
     }
     if is_forbidden(line.said.kind) {
-        return push_forbidden(alloc, telling, line, test, text);
+        return push_forbidden(alloc, telling, line, test, text, inferences);
     }
     Ok(())
 }
@@ -224,6 +226,7 @@ fn all_told(
     telling: Telling,
     lines: &[Line],
     tests: &[Vec<u8>],
+    inferences: usize,
 ) -> Result<String, Fault>
     requires { AreJudged lines.now (map (λ test. test.items) tests.now) }
     ensures { IfOk result (λ text.
@@ -231,7 +234,14 @@ fn all_told(
 {
     let mut text = String::new(alloc);
     for (number, line) in lines.iter().enumerate() {
-        push_told(alloc, telling, line, test_at(tests, number), &mut text)?;
+        push_told(
+            alloc,
+            telling,
+            line,
+            test_at(tests, number),
+            &mut text,
+            inferences,
+        )?;
     }
     Ok(text)
 }
@@ -242,13 +252,14 @@ pub(crate) fn tests_why(
     asked: Option<Telling>,
     lines: &[Line],
     tests: &[Vec<u8>],
+    inferences: usize,
 ) -> Result<String, Fault>
     requires { AreJudged lines.now (map (λ test. test.items) tests.now) }
     ensures { IfOk result (λ text. IsToldBy asked
         (λ telling. AreTold telling lines.now (map (λ test. test.items) tests.now)) (string_bytes text)) }
 {
     match asked {
-        Some(telling) => all_told(alloc, telling, lines, tests),
+        Some(telling) => all_told(alloc, telling, lines, tests, inferences),
         None => Ok(String::new(alloc)),
     }
 }

@@ -22,6 +22,7 @@ use crate::report::{audit_status, below, first_line};
 use crate::report_in_place::{costs_line, in_place_status, lines_in_place, vacuous_line};
 use fs_app_io::{Output, Status};
 use fs_app_test::{Kind, Said, judge_test};
+use fs_board_search::Limits;
 use fs_kinds::{Fault, Prices, read_prices};
 use fs_litmus::Test;
 use std::alloc::{AllocError, Global};
@@ -50,17 +51,22 @@ pub struct Audited {
 ///
 /// The faults are those of `run_anew`, and in place those of the search of the test in which FENCEs order no memory.
 /// The cost is that of `run_anew`, of reading the test once more, and of the search in place.
-pub fn run_audit(alloc: Global, test: &[u8], prices: &[u8], limit: usize) -> Result<Audited, Fault>
-    requires least { 1 ≤ limit }
-    requires most { limit ≤ 1000000 }
+pub fn run_audit(
+    alloc: Global,
+    test: &[u8],
+    prices: &[u8],
+    limits: Limits,
+) -> Result<Audited, Fault>
+    requires least { 1 ≤ limits.nodes }
+    requires most { limits.nodes ≤ 1000000 }
     ensures answer { IfOk result (λ made.
         IsAudited test.now prices.now (string_bytes made.output.text) made.output.status made.kind made.saved) }
-    ensures fault { IfErr result (IsFirstAuditFault test.now prices.now limit) }
+    ensures fault { IfErr result (IsFirstAuditFault test.now prices.now limits.nodes) }
 {
     let table = read_prices(alloc, prices)?;
     let own = read_shared(alloc, test)?;
-    let said = judge_test(alloc, &own)?;
-    answer(alloc, test, table, own, said, limit)
+    let said = judge_test(alloc, &own, limits.inferences)?;
+    answer(alloc, test, table, own, said, limits)
 }
 
 /// The answer to a test that was judged as it is written.
@@ -70,22 +76,22 @@ fn answer(
     prices: Prices,
     own: Arc<Test>,
     said: Said,
-    limit: usize,
+    limits: Limits,
 ) -> Result<Audited, Fault>
     requires reads { Reads bytes.now (arc_value own) }
     requires test { IsTest (arc_value own) }
     requires tested { IsTestedAs (arc_value own) said.kind (string_bytes said.why) (witness_in said.witness) }
-    requires least { 1 ≤ limit }
-    requires most { limit ≤ 1000000 }
+    requires least { 1 ≤ limits.nodes }
+    requires most { limits.nodes ≤ 1000000 }
     ensures answer { IfOk result (λ made. (file : Items ℕ) → ArePricesOf file prices
         → IsAudited bytes.now file (string_bytes made.output.text) made.output.status made.kind made.saved) }
     ensures fault { IfErr result (λ f. (file : Items ℕ) → ArePricesOf file prices
-        → IsFirstAuditFault bytes.now file limit f) }
+        → IsFirstAuditFault bytes.now file limits.nodes f) }
 {
     match said.kind {
-        Kind::Forbidden => answer_in_place(alloc, bytes, prices, own, limit),
+        Kind::Forbidden => answer_in_place(alloc, bytes, prices, own, limits),
         Kind::Vacuous => answer_vacuous(alloc, &prices, &own, said.why.as_str()),
-        Kind::Allowed => answer_anew(alloc, bytes, prices, own, limit),
+        Kind::Allowed => answer_anew(alloc, bytes, prices, own, limits),
         Kind::Faulty => unreachable!(),
     }
 }
@@ -96,25 +102,25 @@ fn answer_in_place(
     bytes: &[u8],
     prices: Prices,
     own: Arc<Test>,
-    limit: usize,
+    limits: Limits,
 ) -> Result<Audited, Fault>
     requires reads { Reads bytes.now (arc_value own) }
     requires test { IsTest (arc_value own) }
     requires tested { (why : Items ℕ) × (witness : Option Shown)
         × IsTestedAs (arc_value own) Kind.Forbidden why witness }
-    requires least { 1 ≤ limit }
-    requires most { limit ≤ 1000000 }
+    requires least { 1 ≤ limits.nodes }
+    requires most { limits.nodes ≤ 1000000 }
     ensures answer { IfOk result (λ made. (file : Items ℕ) → ArePricesOf file prices
         → IsAudited bytes.now file (string_bytes made.output.text) made.output.status made.kind made.saved) }
     ensures fault { IfErr result (λ f. (file : Items ℕ) → ArePricesOf file prices
-        → IsFirstAuditFault bytes.now file limit f) }
+        → IsFirstAuditFault bytes.now file limits.nodes f) }
 {
-    let in_place = find_in_place(alloc, bytes, &prices, &own, limit)?;
+    let in_place = find_in_place(alloc, bytes, &prices, &own, limits)?;
     let written = Written {
         test: own,
         kind: Kind::Forbidden,
     };
-    let found = find_judged(alloc, Purpose::Advise, bytes, prices, written, limit)?;
+    let found = find_judged(alloc, Purpose::Advise, bytes, prices, written, limits)?;
     Ok(output_in_place(alloc, &found, &in_place)?)
 }
 
@@ -178,24 +184,24 @@ fn answer_anew(
     bytes: &[u8],
     prices: Prices,
     own: Arc<Test>,
-    limit: usize,
+    limits: Limits,
 ) -> Result<Audited, Fault>
     requires reads { Reads bytes.now (arc_value own) }
     requires test { IsTest (arc_value own) }
     requires tested { (why : Items ℕ) × (witness : Option Shown)
         × IsTestedAs (arc_value own) Kind.Allowed why witness }
-    requires least { 1 ≤ limit }
-    requires most { limit ≤ 1000000 }
+    requires least { 1 ≤ limits.nodes }
+    requires most { limits.nodes ≤ 1000000 }
     ensures answer { IfOk result (λ made. (file : Items ℕ) → ArePricesOf file prices
         → IsAudited bytes.now file (string_bytes made.output.text) made.output.status made.kind made.saved) }
     ensures fault { IfErr result (λ f. (file : Items ℕ) → ArePricesOf file prices
-        → IsFirstAnewFault bytes.now file limit f) }
+        → IsFirstAnewFault bytes.now file limits.nodes f) }
 {
     let written = Written {
         test: own,
         kind: Kind::Allowed,
     };
-    let found = find_judged(alloc, Purpose::Advise, bytes, prices, written, limit)?;
+    let found = find_judged(alloc, Purpose::Advise, bytes, prices, written, limits)?;
     Ok(found_anew(alloc, &found)?)
 }
 
@@ -230,15 +236,15 @@ fn found_anew(alloc: Global, found: &Findings) -> Result<Audited, AllocError>
 /// `judge_test` of fs_app_test; those of a search for the cheapest fences with this limit of nodes. `Memory` may come
 /// in place of any answer. The cost is that of reading the test four times, of judging it twice, of the search, and of
 /// each hart the fourth power of its code's length.
-pub fn run_anew(alloc: Global, test: &[u8], prices: &[u8], limit: usize) -> Result<Audited, Fault>
-    requires least { 1 ≤ limit }
-    requires most { limit ≤ 1000000 }
+pub fn run_anew(alloc: Global, test: &[u8], prices: &[u8], limits: Limits) -> Result<Audited, Fault>
+    requires least { 1 ≤ limits.nodes }
+    requires most { limits.nodes ≤ 1000000 }
     ensures answer { IfOk result (λ made.
         IsAuditedAnew test.now prices.now (string_bytes made.output.text) made.output.status made.kind) }
     ensures saved { IfOk result (λ made. made.saved ≡ 0) }
-    ensures fault { IfErr result (IsFirstAnewFault test.now prices.now limit) }
+    ensures fault { IfErr result (IsFirstAnewFault test.now prices.now limits.nodes) }
 {
-    let found = find(alloc, Purpose::Advise, test, prices, limit)?;
+    let found = find(alloc, Purpose::Advise, test, prices, limits)?;
     Ok(found_anew(alloc, &found)?)
 }
 

@@ -14,6 +14,7 @@ use crate::audit::{Audited, run_anew, run_audit};
 use fs_app_error_messages::shown_name;
 use fs_app_io::{Output, Source, Status};
 use fs_app_test::{Kind, counted};
+use fs_board_search::Limits;
 use fs_kinds::Fault;
 use std::alloc::{AllocError, Global};
 use std::marker::Model;
@@ -59,17 +60,17 @@ fn said_of(
     test: &[u8],
     prices: &[u8],
     is_anew: bool,
-    limit: usize,
+    limits: Limits,
 ) -> Result<Audited, Fault>
-    requires least { 1 ≤ limit }
-    requires most { limit ≤ 1000000 }
+    requires least { 1 ≤ limits.nodes }
+    requires most { limits.nodes ≤ 1000000 }
     ensures { IfOk result (λ made. IsSaidBy is_anew test.now prices.now (string_bytes made.output.text)
         made.output.status made.kind made.saved) }
 {
     if is_anew {
-        run_anew(alloc, test, prices, limit)
+        run_anew(alloc, test, prices, limits)
     } else {
-        run_audit(alloc, test, prices, limit)
+        run_audit(alloc, test, prices, limits)
     }
 }
 
@@ -143,14 +144,14 @@ fn block_of_bytes(
     test: &[u8],
     prices: &[u8],
     is_anew: bool,
-    limit: usize,
+    limits: Limits,
 ) -> Result<Block, Fault>
-    requires least { 1 ≤ limit }
-    requires most { limit ≤ 1000000 }
+    requires least { 1 ≤ limits.nodes }
+    requires most { limits.nodes ≤ 1000000 }
     ensures ok { IfOk result (IsBlock is_anew prices.now) }
     ensures err { IsOkUnless result Fault.Memory }
 {
-    match said_of(alloc, test, prices, is_anew, limit) {
+    match said_of(alloc, test, prices, is_anew, limits) {
         Ok(said) => Ok(named(alloc, name, said)?),
         Err(fault) => block_of_fault(alloc, name, prices, is_anew, fault),
     }
@@ -163,21 +164,21 @@ fn block_of(
     file: Result<Vec<u8>, Fault>,
     prices: &[u8],
     is_anew: bool,
-    limit: usize,
+    limits: Limits,
 ) -> Result<Block, Fault>
-    requires least { 1 ≤ limit }
-    requires most { limit ≤ 1000000 }
+    requires least { 1 ≤ limits.nodes }
+    requires most { limits.nodes ≤ 1000000 }
     ensures ok { IfOk result (IsBlock is_anew prices.now) }
     ensures err { IsOkUnless result Fault.Memory }
 {
     match file {
-        Ok(test) => block_of_bytes(alloc, name, &test, prices, is_anew, limit),
+        Ok(test) => block_of_bytes(alloc, name, &test, prices, is_anew, limits),
         Err(fault) => block_of_fault(alloc, name, prices, is_anew, fault),
     }
 }
 
 /// What is printed of the file of this name, in place or anew, at these prices. The file is its bytes as they were
-/// read, or the fault of reading it. The limit is one of nodes, from 1 to 1,000,000. The cost is that of `run_audit` or
+/// read, or the fault of reading it. There may be from 1 to 1,000,000 nodes. The cost is that of `run_audit` or
 /// `run_anew`. The error is `Memory`.
 pub fn audit_file<'a>(
     alloc: Global,
@@ -185,13 +186,13 @@ pub fn audit_file<'a>(
     file: Result<Vec<u8>, Fault>,
     prices: &'a [u8],
     is_anew: bool,
-    limit: usize,
+    limits: Limits,
 ) -> Result<Found<'a>, Fault>
-    requires least { 1 ≤ limit }
-    requires most { limit ≤ 1000000 }
+    requires least { 1 ≤ limits.nodes }
+    requires most { limits.nodes ≤ 1000000 }
     ensures err { IsOkUnless result Fault.Memory }
 {
-    let block = block_of(alloc, name, file, prices, is_anew, limit)?;
+    let block = block_of(alloc, name, file, prices, is_anew, limits)?;
     Ok(Found {
         prices,
         is_anew,

@@ -32,7 +32,7 @@ use crate::standing::access_after;
 use crate::{is_fence, memory_kind};
 use fs_app_test::{Kind, forbids, judge_test};
 use fs_board_offers::{Question, is_same};
-use fs_board_search::{Answer, Problem, Unwatched, problem_of, solve_problem};
+use fs_board_search::{Answer, Limits, Problem, Unwatched, problem_of, solve_problem};
 use fs_cert_evidence::Forbidden;
 use fs_instr::Instr;
 use fs_kinds::{Entry, Fault, Kind as FenceKind, List, Placement, Prices, Slot, read_prices};
@@ -315,22 +315,22 @@ fn best(
     alloc: Global,
     question: &Arc<Priced>,
     own: &Placement,
-    limit: usize,
+    limits: Limits,
 ) -> Result<Option<Placement>, Fault>
     requires bounded { IsBounded (arc_value question.now).test }
     requires starts { All IsStart (arc_value question.now).test.starts }
     requires slots { slots_of own.now ≡ slots (arc_value question.now).test }
     requires offered { IsTrue (are_offered (arc_value question.now).prices own.now) }
-    requires least { 1 ≤ limit }
-    requires most { limit ≤ 1000000 }
+    requires least { 1 ≤ limits.nodes }
+    requires most { limits.nodes ≤ 1000000 }
     ensures ok { IfOk result (IsAdvised (arc_value question.now).test (arc_value question.now).prices own.now) }
     ensures err { IfErr result (λ f. f ≢ Fault.Memory
-        → IsUnanswered (arc_value question.now).test (arc_value question.now).prices limit f) }
+        → IsUnanswered (arc_value question.now).test (arc_value question.now).prices limits.nodes f) }
 {
     let asked = offered_question(alloc, question)?;
-    let problem = problem_of(alloc, &asked)?;
+    let problem = problem_of(alloc, &asked, limits.inferences)?;
     let shared = Arc::try_clone(&problem)?;
-    let solved = solve_problem(alloc, asked, shared, limit, &mut Unwatched)?;
+    let solved = solve_problem(alloc, asked, shared, limits.nodes, &mut Unwatched)?;
     match &solved.answer {
         Answer::Fenced { forbidden, cost } => {
             let best = kept_or_first(alloc, question, &problem, own, forbidden, *cost)?;
@@ -411,14 +411,14 @@ pub fn find_judged(
     bytes: &[u8],
     prices: Prices,
     written: Written,
-    limit: usize,
+    limits: Limits,
 ) -> Result<Findings, Fault>
     requires reads { Reads bytes.now (arc_value written.test) }
     requires test { IsTest (arc_value written.test) }
     requires tested { (why : Items ℕ) × (witness : Option Shown)
         × IsTestedAs (arc_value written.test) written.kind why witness }
-    requires least { 1 ≤ limit }
-    requires most { limit ≤ 1000000 }
+    requires least { 1 ≤ limits.nodes }
+    requires most { limits.nodes ≤ 1000000 }
     ensures found { IfOk result (λ found. (file : Items ℕ) → ArePricesOf file prices
         → AreFound purpose bytes.now file (findings_of found)) }
     ensures own { IfOk result (λ found. arc_value found.written.test ≡ arc_value written.test) }
@@ -426,12 +426,12 @@ pub fn find_judged(
     ensures prices { IfOk result (λ found. (arc_value found.question).prices ≡ prices) }
     ensures sound { IfOk result IsSound }
     ensures fault { IfErr result (λ f. (file : Items ℕ) → ArePricesOf file prices
-        → IsFirstFault purpose bytes.now file limit f) }
+        → IsFirstFault purpose bytes.now file limits.nodes f) }
 {
     let question = bare_question(alloc, purpose, bytes, prices)?;
     let asked = read_asked(alloc, purpose, bytes)?;
     let (fences, all_fit) = own_fences(alloc, &question, asked.codes.as_slice())?;
-    let best = best(alloc, &question, &fences, limit)?;
+    let best = best(alloc, &question, &fences, limits)?;
     let lines = lines_of(alloc, bytes)?;
     Ok(Findings {
         written,
@@ -450,20 +450,20 @@ pub fn find(
     purpose: Purpose,
     test: &[u8],
     prices: &[u8],
-    limit: usize,
+    limits: Limits,
 ) -> Result<Findings, Fault>
-    requires least { 1 ≤ limit }
-    requires most { limit ≤ 1000000 }
+    requires least { 1 ≤ limits.nodes }
+    requires most { limits.nodes ≤ 1000000 }
     ensures found { IfOk result (λ found. AreFound purpose test.now prices.now (findings_of found)) }
     ensures sound { IfOk result IsSound }
-    ensures fault { IfErr result (IsFirstFault purpose test.now prices.now limit) }
+    ensures fault { IfErr result (IsFirstFault purpose test.now prices.now limits.nodes) }
 {
     let table = read_prices(alloc, prices)?;
     let own = read_shared(alloc, test)?;
-    let said = judge_test(alloc, &own)?;
+    let said = judge_test(alloc, &own, limits.inferences)?;
     let written = Written {
         test: own,
         kind: said.kind,
     };
-    find_judged(alloc, purpose, test, table, written, limit)
+    find_judged(alloc, purpose, test, table, written, limits)
 }

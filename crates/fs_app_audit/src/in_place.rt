@@ -17,7 +17,7 @@ ghost use Rattle.fs_app_audit.specs.InPlace.{offers_in_place};
 use crate::emptied;
 use crate::places::offers_in_place;
 use fs_board_offers::{Offers, Question};
-use fs_board_search::{Unwatched, cheapest, problem_of};
+use fs_board_search::{Limits, Unwatched, cheapest, problem_of};
 use fs_kinds::{Fault, Kind, Placement, Prices};
 use fs_litmus::{Test, read_test};
 use std::alloc::{AllocError, Global};
@@ -47,17 +47,17 @@ fn read_emptied(alloc: Global, bytes: &[u8]) -> Result<Arc<Test>, Fault>
 }
 
 /// The first of the cheapest of the offers of a question that rule the outcome out, where some do.
-fn searched(alloc: Global, question: Arc<Question>, limit: usize) -> Result<Placement, Fault>
+fn searched(alloc: Global, question: Arc<Question>, limits: Limits) -> Result<Placement, Fault>
     requires bounded { IsBounded (arc_value question).test }
     requires starts { All IsStart (arc_value question).test.starts }
     requires some { (p : Items EntryValue) × IsPlacement (arc_value question).offers p
         × (Allows (arc_value question).test p → ⊥) }
-    requires most { limit ≤ 1000000 }
+    requires most { limits.nodes ≤ 1000000 }
     ensures ok { IfOk result (λ p. IsCheapest (arc_value question).test (arc_value question).offers p) }
-    ensures err { IfErr result (λ f. f ≢ Fault.Memory → IsLimitFault (arc_value question) limit f) }
+    ensures err { IfErr result (λ f. f ≢ Fault.Memory → IsLimitFault (arc_value question) limits.nodes f) }
 {
-    let problem = problem_of(alloc, &question)?;
-    let found = cheapest(alloc, question, problem, limit, &mut Unwatched)?;
+    let problem = problem_of(alloc, &question, limits.inferences)?;
+    let found = cheapest(alloc, question, problem, limits.nodes, &mut Unwatched)?;
     found.placement.copy()
 }
 
@@ -79,18 +79,18 @@ fn advised_of(
     alloc: Global,
     test: &Arc<Test>,
     offers: Offers,
-    limit: usize,
+    limits: Limits,
 ) -> Result<Placement, Fault>
     requires bounded { IsBounded (arc_value test.now) }
     requires starts { All IsStart (arc_value test.now).starts }
     requires some { (p : Items EntryValue) × IsPlacement offers p × (Allows (arc_value test.now) p → ⊥) }
-    requires most { limit ≤ 1000000 }
+    requires most { limits.nodes ≤ 1000000 }
     ensures ok { IfOk result (λ p. IsCheapest (arc_value test.now) offers p) }
     ensures err { IfErr result (λ f. f ≢ Fault.Memory
-        → IsLimitFault (record { test = arc_value test.now; offers = offers }) limit f) }
+        → IsLimitFault (record { test = arc_value test.now; offers = offers }) limits.nodes f) }
 {
     let question = asked_in_place(alloc, test, offers)?;
-    searched(alloc, question, limit)
+    searched(alloc, question, limits)
 }
 
 /// What is found in place of a test that is forbidden as it is written, at these prices. The faults are those of reading
@@ -100,25 +100,25 @@ pub fn find_in_place(
     bytes: &[u8],
     prices: &Prices,
     own: &Test,
-    limit: usize,
+    limits: Limits,
 ) -> Result<InPlace, Fault>
     requires reads { Reads bytes.now own.now }
     requires bounded { IsBounded own.now }
     requires forbidden { IsForbidden own.now }
-    requires most { limit ≤ 1000000 }
+    requires most { limits.nodes ≤ 1000000 }
     ensures offers { IfOk result (λ found. found.offers ≡ offers_in_place prices.now own.now.codes) }
     ensures same { IfOk result (λ found. IsSame (arc_value found.empty) (emptied own.now)) }
     ensures cheapest { IfOk result (λ found.
         IsCheapest (arc_value found.empty) (offers_in_place prices.now own.now.codes) found.advised) }
     ensures fault { IfErr result (λ f. f ≢ Fault.Memory
         → IsTestFault bytes.now f ⊎ ((u : Tests) × IsSame u (emptied own.now)
-        × IsLimitFault (record { test = u; offers = offers_in_place prices.now own.now.codes }) limit f)) }
+        × IsLimitFault (record { test = u; offers = offers_in_place prices.now own.now.codes }) limits.nodes f)) }
 {
     let codes = own.codes.as_slice();
     let _table = prices.of(Kind::RwRw);
     let empty = read_emptied(alloc, bytes)?;
     let asked = offers_in_place(alloc, prices, codes)?;
-    let advised = advised_of(alloc, &empty, asked, limit)?;
+    let advised = advised_of(alloc, &empty, asked, limits)?;
     let offers = offers_in_place(alloc, prices, codes)?;
     Ok(InPlace {
         empty,

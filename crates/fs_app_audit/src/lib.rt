@@ -32,6 +32,7 @@ pub use easing::eased;
 pub use emptying::emptied;
 pub use findings::{Findings, Written, find, find_judged, read_shared};
 pub use fs_app_file_text::{is_fence, memory_kind, names_devices};
+pub use fs_board_search::Limits;
 pub use in_place::{InPlace, find_in_place};
 pub use in_place_advice::advice_in_place;
 pub use laws::{advised_fences_are_needed, lines_can_be_followed};

@@ -22,6 +22,7 @@ use crate::in_place::find_in_place;
 use fs_app_file_text::{Rewritten, rewrite};
 use fs_app_io::{Output, Status};
 use fs_app_test::{Kind, Said, judge_test};
+use fs_board_search::Limits;
 use fs_kinds::{Fault, Placement, Prices, read_prices};
 use fs_litmus::{Test, write_fenced};
 use std::alloc::Global;
@@ -41,12 +42,12 @@ fn says_forbidden(said: &Said) -> bool
 
 /// Is the outcome of the test forbidden as it is written, and the test not vacuous?
 #[tactic(auto, using(crate::proofs::Answered::forbidden_as))]
-fn is_forbidden(alloc: Global, test: &Arc<Test>) -> Result<bool, Fault>
+fn is_forbidden(alloc: Global, test: &Arc<Test>, inferences: usize) -> Result<bool, Fault>
     requires { IsTest (arc_value test.now) }
     ensures yes { IfOk result (λ is. is ≡ true → IsForbidden (arc_value test.now)) }
     ensures err { IsOkUnless result Fault.Memory }
 {
-    match judge_test(alloc, test) {
+    match judge_test(alloc, test, inferences) {
         Ok(said) => Ok(says_forbidden(&said)),
         Err(Fault::Memory) => Err(Fault::Memory),
         Err(_) => Ok(false),
@@ -59,6 +60,7 @@ fn rewritten_text(
     bytes: &[u8],
     own: &Test,
     advised: &Placement,
+    inferences: usize,
 ) -> Result<Option<String>, Fault>
     requires { IsTest own.now }
     ensures text { IfOk result (λ found. IfSome found (λ text.
@@ -70,7 +72,7 @@ fn rewritten_text(
     };
     let Rewritten { text, test } = made;
     let test = Arc::new(alloc, test)?;
-    if is_forbidden(alloc, &test)? {
+    if is_forbidden(alloc, &test, inferences)? {
         Ok(Some(text))
     } else {
         Ok(None)
@@ -94,19 +96,19 @@ fn output_of_file(
     bytes: &[u8],
     prices: &Prices,
     own: &Test,
-    limit: usize,
+    limits: Limits,
 ) -> Result<Option<Output>, Fault>
     requires reads { Reads bytes.now own.now }
     requires test { IsTest own.now }
     requires tested { (why : Items ℕ) × (witness : Option Shown) × IsTestedAs own.now Kind.Forbidden why witness }
-    requires most { limit ≤ 1000000 }
+    requires most { limits.nodes ≤ 1000000 }
     ensures answer { IfOk result (λ found. IfSome found (λ output. (file : Items ℕ) → ArePricesOf file prices.now
         → IsWritten bytes.now file (string_bytes output.text) output.status)) }
     ensures fault { IfErr result (λ f. (file : Items ℕ) → ArePricesOf file prices.now
-        → IsFirstWrittenFault bytes.now file limit f) }
+        → IsFirstWrittenFault bytes.now file limits.nodes f) }
 {
-    let in_place = find_in_place(alloc, bytes, prices, own, limit)?;
-    let Some(text) = rewritten_text(alloc, bytes, own, &in_place.advised)? else {
+    let in_place = find_in_place(alloc, bytes, prices, own, limits)?;
+    let Some(text) = rewritten_text(alloc, bytes, own, &in_place.advised, limits.inferences)? else {
         return Ok(None);
     };
     let status = written_status(bytes, text.as_str());
@@ -119,27 +121,27 @@ fn written_in_place(
     bytes: &[u8],
     prices: Prices,
     own: Arc<Test>,
-    limit: usize,
+    limits: Limits,
 ) -> Result<Output, Fault>
     requires reads { Reads bytes.now (arc_value own) }
     requires test { IsTest (arc_value own) }
     requires tested { (why : Items ℕ) × (witness : Option Shown)
         × IsTestedAs (arc_value own) Kind.Forbidden why witness }
-    requires least { 1 ≤ limit }
-    requires most { limit ≤ 1000000 }
+    requires least { 1 ≤ limits.nodes }
+    requires most { limits.nodes ≤ 1000000 }
     ensures answer { IfOk result (λ output. (file : Items ℕ) → ArePricesOf file prices
         → IsWritten bytes.now file (string_bytes output.text) output.status) }
     ensures fault { IfErr result (λ f. (file : Items ℕ) → ArePricesOf file prices
-        → IsFirstWrittenFault bytes.now file limit f) }
+        → IsFirstWrittenFault bytes.now file limits.nodes f) }
 {
-    match output_of_file(alloc, bytes, &prices, &own, limit)? {
+    match output_of_file(alloc, bytes, &prices, &own, limits)? {
         Some(output) => Ok(output),
         None => {
             let written = Written {
                 test: own,
                 kind: Kind::Forbidden,
             };
-            written_anew(alloc, bytes, prices, written, limit)
+            written_anew(alloc, bytes, prices, written, limits)
         }
     }
 }
@@ -176,20 +178,20 @@ fn written_anew(
     bytes: &[u8],
     prices: Prices,
     written: Written,
-    limit: usize,
+    limits: Limits,
 ) -> Result<Output, Fault>
     requires reads { Reads bytes.now (arc_value written.test) }
     requires test { IsTest (arc_value written.test) }
     requires tested { (why : Items ℕ) × (witness : Option Shown)
         × IsTestedAs (arc_value written.test) written.kind why witness }
-    requires least { 1 ≤ limit }
-    requires most { limit ≤ 1000000 }
+    requires least { 1 ≤ limits.nodes }
+    requires most { limits.nodes ≤ 1000000 }
     ensures answer { IfOk result (λ output. (file : Items ℕ) → ArePricesOf file prices
         → IsWritten bytes.now file (string_bytes output.text) output.status) }
     ensures fault { IfErr result (λ f. (file : Items ℕ) → ArePricesOf file prices
-        → IsFirstWrittenFault bytes.now file limit f) }
+        → IsFirstWrittenFault bytes.now file limits.nodes f) }
 {
-    let found = find_judged(alloc, Purpose::Write, bytes, prices, written, limit)?;
+    let found = find_judged(alloc, Purpose::Write, bytes, prices, written, limits)?;
     let text = mended_text(alloc, &found)?;
     Ok(Output {
         text,
@@ -206,26 +208,26 @@ fn written(
     prices: Prices,
     own: Arc<Test>,
     said: Said,
-    limit: usize,
+    limits: Limits,
 ) -> Result<Output, Fault>
     requires reads { Reads bytes.now (arc_value own) }
     requires test { IsTest (arc_value own) }
     requires tested { IsTestedAs (arc_value own) said.kind (string_bytes said.why) (witness_in said.witness) }
-    requires least { 1 ≤ limit }
-    requires most { limit ≤ 1000000 }
+    requires least { 1 ≤ limits.nodes }
+    requires most { limits.nodes ≤ 1000000 }
     ensures answer { IfOk result (λ output. (file : Items ℕ) → ArePricesOf file prices
         → IsWritten bytes.now file (string_bytes output.text) output.status) }
     ensures fault { IfErr result (λ f. (file : Items ℕ) → ArePricesOf file prices
-        → IsFirstWrittenFault bytes.now file limit f) }
+        → IsFirstWrittenFault bytes.now file limits.nodes f) }
 {
     match said.kind {
-        Kind::Forbidden => written_in_place(alloc, bytes, prices, own, limit),
+        Kind::Forbidden => written_in_place(alloc, bytes, prices, own, limits),
         _ => {
             let written = Written {
                 test: own,
                 kind: said.kind,
             };
-            written_anew(alloc, bytes, prices, written, limit)
+            written_anew(alloc, bytes, prices, written, limits)
         }
     }
 }
@@ -246,15 +248,20 @@ fn written(
 ///
 /// The faults are those of `run_anew`, and in place those of `run_audit`; a search may end with another one. The cost
 /// is that of `run_audit` at most, and of judging the test once more.
-pub fn run_written(alloc: Global, test: &[u8], prices: &[u8], limit: usize) -> Result<Output, Fault>
-    requires least { 1 ≤ limit }
-    requires most { limit ≤ 1000000 }
+pub fn run_written(
+    alloc: Global,
+    test: &[u8],
+    prices: &[u8],
+    limits: Limits,
+) -> Result<Output, Fault>
+    requires least { 1 ≤ limits.nodes }
+    requires most { limits.nodes ≤ 1000000 }
     ensures answer { IfOk result (λ output.
         IsWritten test.now prices.now (string_bytes output.text) output.status) }
-    ensures fault { IfErr result (IsFirstWrittenFault test.now prices.now limit) }
+    ensures fault { IfErr result (IsFirstWrittenFault test.now prices.now limits.nodes) }
 {
     let table = read_prices(alloc, prices)?;
     let own = read_shared(alloc, test)?;
-    let said = judge_test(alloc, &own)?;
-    written(alloc, test, table, own, said, limit)
+    let said = judge_test(alloc, &own, limits.inferences)?;
+    written(alloc, test, table, own, said, limits)
 }

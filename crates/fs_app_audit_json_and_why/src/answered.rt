@@ -18,7 +18,7 @@ ghost use Rattle.fs_app_audit_json_and_why.specs.Objects.{anew_value, in_place_v
 use crate::cost::written_of;
 use crate::objects::{anew_value, in_place_value, vacuous_value};
 use fs_app_audit::{
-    Audited, Findings, InPlace, Purpose, Written, find, find_in_place, find_judged,
+    Audited, Findings, InPlace, Limits, Purpose, Written, find, find_in_place, find_judged,
     in_place_status, offers_in_place, read_shared, status_of, written_cost,
 };
 use fs_app_io::{Output, Status};
@@ -69,26 +69,26 @@ fn answer_in_place(
     bytes: &[u8],
     prices: Prices,
     own: Arc<Test>,
-    limit: usize,
+    limits: Limits,
 ) -> Result<Audited, Fault>
     requires reads { Reads bytes.now (arc_value own) }
     requires test { IsTest (arc_value own) }
     requires tested { (why : Items ℕ) × (witness : Option Shown)
         × IsTestedAs (arc_value own) Kind.Forbidden why witness }
-    requires least { 1 ≤ limit }
-    requires most { limit ≤ 1000000 }
+    requires least { 1 ≤ limits.nodes }
+    requires most { limits.nodes ≤ 1000000 }
     ensures answer { IfOk result (λ made. (given : Items ℕ) → ArePricesOf given prices
         → IsObjectAudit name.now bytes.now given (string_bytes made.output.text)
         made.output.status made.kind made.saved) }
     ensures fault { IfErr result (λ f. (given : Items ℕ) → ArePricesOf given prices
-        → IsFirstAuditFault bytes.now given limit f) }
+        → IsFirstAuditFault bytes.now given limits.nodes f) }
 {
-    let in_place = find_in_place(alloc, bytes, &prices, &own, limit)?;
+    let in_place = find_in_place(alloc, bytes, &prices, &own, limits)?;
     let written = Written {
         test: own,
         kind: Kind::Forbidden,
     };
-    let found = find_judged(alloc, Purpose::Advise, bytes, prices, written, limit)?;
+    let found = find_judged(alloc, Purpose::Advise, bytes, prices, written, limits)?;
     Ok(output_in_place(alloc, name, &found, &in_place)?)
 }
 
@@ -173,25 +173,25 @@ fn answer_anew(
     bytes: &[u8],
     prices: Prices,
     own: Arc<Test>,
-    limit: usize,
+    limits: Limits,
 ) -> Result<Audited, Fault>
     requires reads { Reads bytes.now (arc_value own) }
     requires test { IsTest (arc_value own) }
     requires tested { (why : Items ℕ) × (witness : Option Shown)
         × IsTestedAs (arc_value own) Kind.Allowed why witness }
-    requires least { 1 ≤ limit }
-    requires most { limit ≤ 1000000 }
+    requires least { 1 ≤ limits.nodes }
+    requires most { limits.nodes ≤ 1000000 }
     ensures answer { IfOk result (λ made. (given : Items ℕ) → ArePricesOf given prices
         → IsObjectAudit name.now bytes.now given (string_bytes made.output.text)
         made.output.status made.kind made.saved) }
     ensures fault { IfErr result (λ f. (given : Items ℕ) → ArePricesOf given prices
-        → IsFirstAnewFault bytes.now given limit f) }
+        → IsFirstAnewFault bytes.now given limits.nodes f) }
 {
     let written = Written {
         test: own,
         kind: Kind::Allowed,
     };
-    let found = find_judged(alloc, Purpose::Advise, bytes, prices, written, limit)?;
+    let found = find_judged(alloc, Purpose::Advise, bytes, prices, written, limits)?;
     Ok(output_anew(alloc, name, &found)?)
 }
 
@@ -204,23 +204,23 @@ fn answer(
     bytes: &[u8],
     prices: Prices,
     own: Arc<Test>,
-    limit: usize,
+    limits: Limits,
 ) -> Result<Audited, Fault>
     requires reads { Reads bytes.now (arc_value own) }
     requires test { IsTest (arc_value own) }
-    requires least { 1 ≤ limit }
-    requires most { limit ≤ 1000000 }
+    requires least { 1 ≤ limits.nodes }
+    requires most { limits.nodes ≤ 1000000 }
     ensures answer { IfOk result (λ made. (given : Items ℕ) → ArePricesOf given prices
         → IsObjectAudit name.now bytes.now given (string_bytes made.output.text)
         made.output.status made.kind made.saved) }
     ensures fault { IfErr result (λ f. (given : Items ℕ) → ArePricesOf given prices
-        → IsFirstAuditFault bytes.now given limit f) }
+        → IsFirstAuditFault bytes.now given limits.nodes f) }
 {
-    let said = judge_test(alloc, &own)?;
+    let said = judge_test(alloc, &own, limits.inferences)?;
     match said.kind {
-        Kind::Forbidden => answer_in_place(alloc, name, bytes, prices, own, limit),
+        Kind::Forbidden => answer_in_place(alloc, name, bytes, prices, own, limits),
         Kind::Vacuous => answer_vacuous(alloc, name, bytes, &prices, &own, said.why.as_str()),
-        Kind::Allowed => answer_anew(alloc, name, bytes, prices, own, limit),
+        Kind::Allowed => answer_anew(alloc, name, bytes, prices, own, limits),
         Kind::Faulty => unreachable!(),
     }
 }
@@ -232,17 +232,17 @@ pub fn run_audit_object(
     name: &str,
     test: &[u8],
     prices: &[u8],
-    limit: usize,
+    limits: Limits,
 ) -> Result<Audited, Fault>
-    requires least { 1 ≤ limit }
-    requires most { limit ≤ 1000000 }
+    requires least { 1 ≤ limits.nodes }
+    requires most { limits.nodes ≤ 1000000 }
     ensures answer { IfOk result (λ made. IsObjectAudit name.now test.now prices.now
         (string_bytes made.output.text) made.output.status made.kind made.saved) }
-    ensures fault { IfErr result (IsFirstAuditFault test.now prices.now limit) }
+    ensures fault { IfErr result (IsFirstAuditFault test.now prices.now limits.nodes) }
 {
     let table = read_prices(alloc, prices)?;
     let own = read_shared(alloc, test)?;
-    answer(alloc, name, test, table, own, limit)
+    answer(alloc, name, test, table, own, limits)
 }
 
 /// What `audit --anew --json` prints: the object of what `run_anew` of fs_app_audit prints in lines, as a line. Status,
@@ -252,15 +252,15 @@ pub fn run_anew_object(
     name: &str,
     test: &[u8],
     prices: &[u8],
-    limit: usize,
+    limits: Limits,
 ) -> Result<Audited, Fault>
-    requires least { 1 ≤ limit }
-    requires most { limit ≤ 1000000 }
+    requires least { 1 ≤ limits.nodes }
+    requires most { limits.nodes ≤ 1000000 }
     ensures answer { IfOk result (λ made. IsObjectAnew name.now test.now prices.now
         (string_bytes made.output.text) made.output.status made.kind) }
     ensures saved { IfOk result (λ made. made.saved ≡ 0) }
-    ensures fault { IfErr result (IsFirstAnewFault test.now prices.now limit) }
+    ensures fault { IfErr result (IsFirstAnewFault test.now prices.now limits.nodes) }
 {
-    let found = find(alloc, Purpose::Advise, test, prices, limit)?;
+    let found = find(alloc, Purpose::Advise, test, prices, limits)?;
     Ok(output_anew(alloc, name, &found)?)
 }

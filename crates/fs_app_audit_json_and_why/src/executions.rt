@@ -47,6 +47,7 @@ pub(crate) fn some_text(
     test: &Arc<Test>,
     lines: &[List<usize>],
     placement: &Placement,
+    inferences: usize,
 ) -> Result<String, Fault>
     requires test { IsTest (arc_value test.now) }
     requires allowed { Allows (arc_value test.now) placement.now }
@@ -54,7 +55,7 @@ pub(crate) fn some_text(
         TellsSome (arc_value test.now) placement.now lines.now heading.now (string_bytes text)) }
     ensures err { IfErr result (λ f. f ≢ Fault.Memory → IsCandidateFault (arc_value test.now) f) }
 {
-    let verdict = verdict_on(alloc, test, placement)?;
+    let verdict = verdict_on(alloc, test, placement, inferences)?;
     match verdict {
         Verdict::Allowed(witness) => shown_text(alloc, heading, test, lines, placement, &witness),
         Verdict::Forbids(_) => unreachable!(),

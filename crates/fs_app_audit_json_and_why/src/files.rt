@@ -10,7 +10,7 @@ ghost use Rattle.fs_app_audit_json_and_why.specs.Answered.{IsObjectBy};
 ghost use Rattle.fs_app_audit_json_and_why.specs.Files.{AreObjectBlocks, IsObjectBlock, objects_text};
 
 use crate::answered::{run_anew_object, run_audit_object};
-use fs_app_audit::{Audited, Block, are_named, blocks_status};
+use fs_app_audit::{Audited, Block, Limits, are_named, blocks_status};
 use fs_app_io::{Output, Source, Status};
 use fs_app_test::{Kind, Line, Note, Unusable, note_of_file, note_or, test_file, test_objects};
 use fs_kinds::Fault;
@@ -44,17 +44,17 @@ fn said_of(
     test: &[u8],
     prices: &[u8],
     is_anew: bool,
-    limit: usize,
+    limits: Limits,
 ) -> Result<Audited, Fault>
-    requires least { 1 ≤ limit }
-    requires most { limit ≤ 1000000 }
+    requires least { 1 ≤ limits.nodes }
+    requires most { limits.nodes ≤ 1000000 }
     ensures { IfOk result (λ made. IsObjectBy is_anew name.now test.now prices.now
         (string_bytes made.output.text) made.output.status made.kind made.saved) }
 {
     if is_anew {
-        run_anew_object(alloc, name, test, prices, limit)
+        run_anew_object(alloc, name, test, prices, limits)
     } else {
-        run_audit_object(alloc, name, test, prices, limit)
+        run_audit_object(alloc, name, test, prices, limits)
     }
 }
 
@@ -65,15 +65,15 @@ fn told(
     file: Result<Vec<u8>, Unusable>,
     prices: &[u8],
     is_anew: bool,
-    limit: usize,
+    limits: Limits,
 ) -> Result<Audited, Fault>
-    requires least { 1 ≤ limit }
-    requires most { limit ≤ 1000000 }
+    requires least { 1 ≤ limits.nodes }
+    requires most { limits.nodes ≤ 1000000 }
     ensures { IfOk result (λ made. (test : Items ℕ) × IsObjectBy is_anew name.now test prices.now
         (string_bytes made.output.text) made.output.status made.kind made.saved) }
 {
     match file {
-        Ok(test) => said_of(alloc, name, &test, prices, is_anew, limit),
+        Ok(test) => said_of(alloc, name, &test, prices, is_anew, limits),
         Err(why) => Err(why.fault()),
     }
 }
@@ -85,7 +85,7 @@ fn faulty_line(alloc: Global, name: &str, fault: Fault, note: Option<Note>) -> R
         (λ line. NamesFault fault line.said.kind (string_bytes line.said.why) (witness_in line.said.witness)) }
     ensures err { IsOkUnless result Fault.Memory }
 {
-    let mut line = test_file(alloc, name, Err(fault))?;
+    let mut line = test_file(alloc, name, Err(fault), 0)?;
     line.note = note_or(alloc, note, Some(fault))?;
     Ok(line)
 }
@@ -154,22 +154,22 @@ fn block_of(
     file: Result<Vec<u8>, Unusable>,
     prices: &[u8],
     is_anew: bool,
-    limit: usize,
+    limits: Limits,
 ) -> Result<Block, Fault>
-    requires least { 1 ≤ limit }
-    requires most { limit ≤ 1000000 }
+    requires least { 1 ≤ limits.nodes }
+    requires most { limits.nodes ≤ 1000000 }
     ensures ok { IfOk result (IsObjectBlock is_anew prices.now) }
     ensures err { IsOkUnless result Fault.Memory }
 {
     let note = note_of_file(alloc, &file)?;
-    match told(alloc, name, file, prices, is_anew, limit) {
+    match told(alloc, name, file, prices, is_anew, limits) {
         Ok(said) => Ok(named(alloc, name, said)?),
         Err(fault) => block_of_fault(alloc, name, fault, note),
     }
 }
 
 /// The object of the file of this name, in place or anew, at these prices; of a file with a fault that of `test`. The
-/// file is its bytes as they were read, or why it wasn't. The limit is one of nodes, from 1 to 1,000,000. The cost is
+/// file is its bytes as they were read, or why it wasn't. There may be from 1 to 1,000,000 nodes. The cost is
 /// that of `run_audit_object` or `run_anew_object`, and of reading the test once more. The error is `Memory`.
 pub fn object_of_file<'a>(
     alloc: Global,
@@ -177,13 +177,13 @@ pub fn object_of_file<'a>(
     file: Result<Vec<u8>, Unusable>,
     prices: &'a [u8],
     is_anew: bool,
-    limit: usize,
+    limits: Limits,
 ) -> Result<FoundObject<'a>, Fault>
-    requires least { 1 ≤ limit }
-    requires most { limit ≤ 1000000 }
+    requires least { 1 ≤ limits.nodes }
+    requires most { limits.nodes ≤ 1000000 }
     ensures err { IsOkUnless result Fault.Memory }
 {
-    let block = block_of(alloc, name, file, prices, is_anew, limit)?;
+    let block = block_of(alloc, name, file, prices, is_anew, limits)?;
     Ok(FoundObject {
         prices,
         is_anew,

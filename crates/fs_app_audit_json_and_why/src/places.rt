@@ -93,7 +93,7 @@ fn without_text(
     let test = read_advised(alloc, page.bytes, &others)?;
     let none = no_fences(alloc, &test)?;
     let heading = "Without it, in the order of memory:\n";
-    some_text(alloc, heading, &test, page.lines, &none)
+    some_text(alloc, heading, &test, page.lines, &none, page.inferences)
 }
 
 /// What is told of the fence in this place.

@@ -94,6 +94,7 @@ pub(crate) fn refuted(
     lines: &[List<usize>],
     telling: Telling,
     placement: &Placement,
+    inferences: usize,
 ) -> Result<Refutation, Fault>
     requires test { IsTest (arc_value test.now) }
     requires forbidden { Allows (arc_value test.now) placement.now → ⊥ }
@@ -102,7 +103,7 @@ pub(crate) fn refuted(
         × (told.kinds ≡ made.kinds.items)) }
     ensures err { IfErr result (λ f. f ≢ Fault.Memory → IsCandidateFault (arc_value test.now) f) }
 {
-    let verdict = verdict_on(alloc, test, placement)?;
+    let verdict = verdict_on(alloc, test, placement, inferences)?;
     match verdict {
         Verdict::Forbids(forbidden) => {
             let made = refuted_by(alloc, test, lines, telling, placement, &forbidden.cycles)?;

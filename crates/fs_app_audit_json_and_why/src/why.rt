@@ -21,7 +21,7 @@ use crate::executions::shown_text;
 use crate::page::Page;
 use crate::places::places_text;
 use crate::refutation::{Refutation, refuted};
-use fs_app_audit::{find_in_place, read_shared};
+use fs_app_audit::{Limits, find_in_place, read_shared};
 use fs_app_test::{Kind, Said, judge_test};
 use fs_app_why::{Telling, lacks_written, lines_of, no_fences, unwritten_text};
 use fs_kinds::{Fault, Placement, Prices, read_prices};
@@ -43,7 +43,14 @@ fn refuted_in_place(
 {
     let test = read_advised(alloc, page.bytes, placement)?;
     let none = no_fences(alloc, &test)?;
-    refuted(alloc, &test, page.lines, page.telling, &none)
+    refuted(
+        alloc,
+        &test,
+        page.lines,
+        page.telling,
+        &none,
+        page.inferences,
+    )
 }
 
 /// What is told of a test with these fences in place.
@@ -67,19 +74,19 @@ fn in_place_text(
     alloc: Global,
     page: Page<'_>,
     prices: &Prices,
-    limit: usize,
+    limits: Limits,
 ) -> Result<String, Fault>
     requires reads { Reads page.bytes.now page.test.now }
     requires bounded { IsBounded page.test.now }
     requires tested { (why : Items ℕ) × (witness : Option Witnesses)
         × IsTestedAs page.test.now Kind.Forbidden why witness }
-    requires most { limit ≤ 1000000 }
+    requires most { limits.nodes ≤ 1000000 }
     ensures told { IfOk result (λ text. TellsInPlace page.entry.test.now prices.now page.entry.lines.now
         page.entry.telling (string_bytes text)) }
     ensures fault { IfErr result (λ f. (file : Items ℕ) → ArePricesOf file prices.now
-        → IsFirstWhyFault page.entry.bytes.now file limit f) }
+        → IsFirstWhyFault page.entry.bytes.now file limits.nodes f) }
 {
-    let found = find_in_place(alloc, page.bytes, prices, page.test, limit)?;
+    let found = find_in_place(alloc, page.bytes, prices, page.test, limits)?;
     advised_text(alloc, page, &found.advised)
 }
 
@@ -88,23 +95,23 @@ fn forbidden_text(
     alloc: Global,
     page: Page<'_>,
     prices: &Prices,
-    limit: usize,
+    limits: Limits,
 ) -> Result<String, Fault>
     requires reads { Reads page.bytes.now page.test.now }
     requires bounded { IsBounded page.test.now }
     requires tested { (why : Items ℕ) × (witness : Option Witnesses)
         × IsTestedAs page.test.now Kind.Forbidden why witness }
-    requires most { limit ≤ 1000000 }
+    requires most { limits.nodes ≤ 1000000 }
     ensures told { IfOk result (λ text. TellsAs Kind.Forbidden page.entry.test.now prices.now page.entry.lines.now
         page.entry.telling (string_bytes text)) }
     ensures fault { IfErr result (λ f. (file : Items ℕ) → ArePricesOf file prices.now
-        → IsFirstWhyFault page.entry.bytes.now file limit f) }
+        → IsFirstWhyFault page.entry.bytes.now file limits.nodes f) }
 {
     if lacks_written(page.telling, page.test) {
         let text = unwritten_text(alloc, page.telling)?;
         return Ok(text);
     }
-    in_place_text(alloc, page, prices, limit)
+    in_place_text(alloc, page, prices, limits)
 }
 
 /// What is told of a test that is allowed as it is written: the execution that shows it.
@@ -130,19 +137,19 @@ fn told_text(
     page: Page<'_>,
     prices: &Prices,
     said: &Said,
-    limit: usize,
+    limits: Limits,
 ) -> Result<String, Fault>
     requires reads { Reads page.bytes.now page.test.now }
     requires test { IsTest page.test.now }
     requires tested { IsTestedAs page.test.now said.now.kind (string_bytes said.now.why) (witness_in said.now.witness) }
-    requires most { limit ≤ 1000000 }
+    requires most { limits.nodes ≤ 1000000 }
     ensures told { IfOk result (λ text. TellsAs said.now.kind page.entry.test.now prices.now page.entry.lines.now
         page.entry.telling (string_bytes text)) }
     ensures fault { IfErr result (λ f. (file : Items ℕ) → ArePricesOf file prices.now
-        → IsFirstWhyFault page.entry.bytes.now file limit f) }
+        → IsFirstWhyFault page.entry.bytes.now file limits.nodes f) }
 {
     match said.kind {
-        Kind::Forbidden => forbidden_text(alloc, page, prices, limit),
+        Kind::Forbidden => forbidden_text(alloc, page, prices, limits),
         Kind::Allowed => allowed_text(alloc, page, said),
         Kind::Vacuous => Ok(String::new(alloc)),
         Kind::Faulty => unreachable!(),
@@ -167,21 +174,22 @@ pub fn why_audit(
     telling: Telling,
     test: &[u8],
     prices: &[u8],
-    limit: usize,
+    limits: Limits,
 ) -> Result<String, Fault>
-    requires { limit ≤ 1000000 }
+    requires { limits.nodes ≤ 1000000 }
     ensures told { IfOk result (λ text. IsAuditWhy telling test.now prices.now (string_bytes text)) }
-    ensures fault { IfErr result (IsFirstWhyFault test.now prices.now limit) }
+    ensures fault { IfErr result (IsFirstWhyFault test.now prices.now limits.nodes) }
 {
     let table = read_prices(alloc, prices)?;
     let own = read_shared(alloc, test)?;
-    let said = judge_test(alloc, &own)?;
+    let said = judge_test(alloc, &own, limits.inferences)?;
     let lines = lines_of(alloc, test)?;
     let page = Page {
         bytes: test,
         test: &own,
         lines: &lines,
         telling,
+        inferences: limits.inferences,
     };
-    told_text(alloc, page, &table, &said, limit)
+    told_text(alloc, page, &table, &said, limits)
 }

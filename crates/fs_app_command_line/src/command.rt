@@ -462,6 +462,8 @@ const ZALASR_HELP: &str = "Read lw.aq, sw.rl and their like, of the extension Za
 
 const NODES_HELP: &str = "Most nodes that the search may make, 1 to 1000000";
 
+const WORK_HELP: &str = "Most inferences that a hunt for a verdict may make, 1 to 1000000000";
+
 /// What is read of an option that may have a path and has none. No path has such a byte.
 const NO_PATH: &str = "\0";
 
@@ -477,6 +479,11 @@ const ONE_WORKER: u8 = 1;
 /// The most nodes that a search may be allowed, and how many it is where the command line doesn't say.
 pub const MOST_NODES: u32 = 1_000_000;
 
+/// How many inferences a hunt may be allowed at most, and how many it is where the command line doesn't say.
+const MOST_WORK: u32 = 1_000_000_000;
+
+const USUAL_WORK: u32 = 1_000_000;
+
 /// What a command line asks for.
 #[derive(Drop)]
 pub struct Request<'a> {
@@ -485,6 +492,8 @@ pub struct Request<'a> {
     pub quiet: bool,
     /// Whether a message is to explain a fault.
     pub verbose: bool,
+    /// How many inferences each hunt may make: from 1 to 1,000,000,000.
+    pub work: u32,
     /// Whether branches that go back are read: of executions those in which none does.
     pub unroll: bool,
     /// Whether lw and sw may have the annotations of the extension Zalasr.
@@ -790,9 +799,18 @@ fn request_of<'a>(alloc: Global, matches: &ArgMatches<'a>) -> Result<Request<'a>
         task: task_of(alloc, name, found)?,
         quiet: found.get_flag("quiet"),
         verbose: found.get_flag("verbose"),
+        work: work_of(name, found),
         unroll: reads_tests(name) && found.get_one::<u8>("unroll").is_some(),
         zalasr: reads_tests(name) && found.get_flag("zalasr"),
     })
+}
+
+/// How much a hunt of the command of this name may do. Not all hunt.
+fn work_of(name: &str, found: &ArgMatches<'_>) -> u32 {
+    match name {
+        "test" | "states" | "solve" | "audit" => found.get_one::<u32>("work").unwrap_or(USUAL_WORK),
+        _ => USUAL_WORK,
+    }
 }
 
 /// Does the command of this name read tests, and so have the words for their forms?
@@ -1126,6 +1144,8 @@ enum Form {
     Threads,
     /// How many nodes a search may make.
     Nodes,
+    /// How many inferences a hunt may make.
+    Work,
     /// How many turns each loop takes.
     Turns,
 }
@@ -1181,6 +1201,13 @@ const PARAMETERS: &[Parameter] = &[
         form: Form::Option,
         value: "FOLDER",
         help: DOT_HELP,
+    },
+    Parameter {
+        command: "test",
+        name: "work",
+        form: Form::Work,
+        value: "N",
+        help: WORK_HELP,
     },
     Parameter {
         command: "test",
@@ -1275,6 +1302,13 @@ const PARAMETERS: &[Parameter] = &[
     },
     Parameter {
         command: "solve",
+        name: "work",
+        form: Form::Work,
+        value: "N",
+        help: WORK_HELP,
+    },
+    Parameter {
+        command: "solve",
         name: "unroll",
         form: Form::Turns,
         value: "N",
@@ -1359,6 +1393,13 @@ const PARAMETERS: &[Parameter] = &[
     },
     Parameter {
         command: "audit",
+        name: "work",
+        form: Form::Work,
+        value: "N",
+        help: WORK_HELP,
+    },
+    Parameter {
+        command: "audit",
         name: "unroll",
         form: Form::Turns,
         value: "N",
@@ -1405,6 +1446,13 @@ const PARAMETERS: &[Parameter] = &[
         form: Form::Option,
         value: "LOG",
         help: LOG_HELP,
+    },
+    Parameter {
+        command: "states",
+        name: "work",
+        form: Form::Work,
+        value: "N",
+        help: WORK_HELP,
     },
     Parameter {
         command: "states",
@@ -1896,6 +1944,7 @@ fn argument<'a>(alloc: Global, parameter: &Parameter, many: bool) -> Arg<'a> {
         Form::Optional => optional(alloc, name, parameter.value, help),
         Form::Threads => threads(alloc, name, help),
         Form::Nodes => nodes(alloc, help),
+        Form::Work => work(alloc, help),
         Form::Turns => turns(alloc, help),
     }
 }
@@ -1970,6 +2019,12 @@ fn threads<'a>(alloc: Global, name: &'a str, help: &'a str) -> Arg<'a> {
 fn nodes<'a>(alloc: Global, help: &'a str) -> Arg<'a> {
     option(alloc, "nodes", "N", help)
         .value_parser(value_parser!(u32).range(1..=i64::from(MOST_NODES)))
+        .default_value("1000000")
+}
+
+fn work<'a>(alloc: Global, help: &'a str) -> Arg<'a> {
+    option(alloc, "work", "N", help)
+        .value_parser(value_parser!(u32).range(1..=i64::from(MOST_WORK)))
         .default_value("1000000")
 }
 

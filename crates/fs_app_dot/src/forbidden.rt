@@ -78,6 +78,7 @@ fn judged_pictures(
     test: &Arc<Test>,
     telling: Telling,
     placement: &Placement,
+    inferences: usize,
 ) -> Result<Vec<Picture>, Fault>
     requires is_test { IsTest (arc_value test.now) }
     requires same { page.test.now ≡ arc_value test.now }
@@ -85,7 +86,7 @@ fn judged_pictures(
         AreOfVerdict (arc_value test.now) page.entry.title.now telling placement.now pictures.items) }
     ensures err { IfErr result (λ f. f ≢ Memory → IsCandidateFault (arc_value test.now) f) }
 {
-    match verdict_on(alloc, test, placement)? {
+    match verdict_on(alloc, test, placement, inferences)? {
         Verdict::Forbids(forbidden) => {
             let pictures = shown_pictures(
                 alloc,
@@ -103,7 +104,8 @@ fn judged_pictures(
 
 /// The pictures of a test that forbids its outcome as it is written: of each kind of contradiction that `why_forbidden`
 /// of fs_app_why tells its chain, by the name `cycle-1`, `stale-1` or `not-atomic-1` with the kind's number there. None
-/// where an execution shows the outcome, or a list of candidates that none does. The test is judged once more. The
+/// where an execution shows the outcome, or a list of candidates that none does. The test is judged once more,
+/// by a hunt of at most so many inferences. The
 /// faults are those of `read_test`, of `Problem::new` and of `Problem::judged`. The cost is that of these three, of
 /// `chains` and `kinds_of` of fs_app_why, and of `chain_picture` for each kind.
 pub fn forbidden_pictures(
@@ -111,6 +113,7 @@ pub fn forbidden_pictures(
     title: &str,
     telling: Telling,
     test: &[u8],
+    inferences: usize,
 ) -> Result<Vec<Picture>, Fault>
     ensures told { IfOk result (λ pictures.
         AreForbiddenPictures title.now telling test.now pictures.items) }
@@ -125,5 +128,5 @@ pub fn forbidden_pictures(
         test: &read,
         lines: &lines,
     };
-    judged_pictures(alloc, page, &read, telling, &placement)
+    judged_pictures(alloc, page, &read, telling, &placement, inferences)
 }

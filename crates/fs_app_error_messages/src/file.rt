@@ -46,7 +46,8 @@ fn whole_words(fault: Fault) -> &'static str {
         Fault::Astray { .. } =>
             "a run comes to this instruction with an address of no location: see the initial values, as `0:x6=x;`",
         Fault::TooManyCandidates =>
-            "there are more candidates, states or lists of runs than may be looked at: leave accesses out",
+            "there are more candidates, states or lists of runs than may be looked at: leave accesses out; \
+            where a hunt gave up a larger `--work` may help",
         Fault::NodeLimit => "the search came to its end: `--nodes` says how far it may go",
         Fault::ReadFault =>
             "it can't be opened or read, or is longer than a test may be, 1,048,576 bytes",

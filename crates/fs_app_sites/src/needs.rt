@@ -14,11 +14,11 @@ use std::alloc::{AllocError, Global};
 use std::sync::Arc;
 
 /// A judge of the test.
-fn judge_of(alloc: Global, part: &Part) -> Result<Judge, Fault>
+fn judge_of(alloc: Global, part: &Part, inferences: usize) -> Result<Judge, Fault>
     requires { IsPart part.now }
 {
     let test = Arc::try_clone(&part.test)?;
-    let problem = Problem::shared(alloc, test)?;
+    let problem = Problem::shared(alloc, test, inferences)?;
     Ok(Judge::new(alloc, problem))
 }
 
@@ -71,10 +71,11 @@ fn push_needed(
     names: &[String],
     placement: &Placement,
     text: &mut String,
+    inferences: usize,
 ) -> Result<(), Fault>
     requires { IsPart part.now }
 {
-    let mut judge = judge_of(alloc, part)?;
+    let mut judge = judge_of(alloc, part, inferences)?;
     let mut is_first = true;
     for (site, entry) in placement.as_slice().iter().enumerate() {
         if entry.kind.is_some()
@@ -99,12 +100,13 @@ fn push_line(
     names: &[String],
     placement: &Placement,
     text: &mut String,
+    inferences: usize,
 ) -> Result<(), Fault>
     requires { IsPart part.now }
 {
     let file = shown_name(alloc, file)?;
     write!(text, "note: {} needs", file.as_str())?;
-    push_needed(alloc, part, names, placement, text)?;
+    push_needed(alloc, part, names, placement, text, inferences)?;
     text.push_str("\n")?;
     Ok(())
 }
@@ -115,13 +117,22 @@ fn lines_of(
     tests: &Tests,
     asked: &Asked,
     placement: &Placement,
+    inferences: usize,
 ) -> Result<String, Fault>
     requires { All IsPart asked.now.question.parts }
 {
     let mut text = String::new(alloc);
     for (part, file) in asked.question.parts.iter().zip(tests.files.as_slice()) {
         let name = file.name.as_str();
-        push_line(alloc, name, part, &asked.names, placement, &mut text)?;
+        push_line(
+            alloc,
+            name,
+            part,
+            &asked.names,
+            placement,
+            &mut text,
+            inferences,
+        )?;
     }
     Ok(text)
 }
@@ -136,8 +147,14 @@ pub fn needs_text(
     limits: Limits,
 ) -> Result<String, Fault> {
     let asked = read_question(alloc, tests, prices)?;
-    match solve(alloc, &asked.question, limits.rounds, limits.steps)? {
-        Answer::Fenced { placement, .. } => lines_of(alloc, tests, &asked, &placement),
+    match solve(alloc, &asked.question, limits)? {
+        Answer::Fenced { placement, .. } => lines_of(
+            alloc,
+            tests,
+            &asked,
+            &placement,
+            limits.inferences,
+        ),
         Answer::None { .. } => Ok(String::new(alloc)),
     }
 }

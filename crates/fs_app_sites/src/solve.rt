@@ -86,10 +86,17 @@ pub fn solved_of(
 }
 
 /// The number of the first file that has the fault where it is the only one, for a message. None where no file is found
-/// to have it. Each file is read again, and its outcome judged once with `rw,rw` at every site.
-pub fn first_at_fault(alloc: Global, tests: &Tests, prices: &[u8], fault: Fault) -> Option<usize> {
+/// to have it. Each file is read again, and its outcome judged once with `rw,rw` at every site, by hunts of so many
+/// inferences each.
+pub fn first_at_fault(
+    alloc: Global,
+    tests: &Tests,
+    prices: &[u8],
+    fault: Fault,
+    inferences: usize,
+) -> Option<usize> {
     for (number, file) in tests.files.as_slice().iter().enumerate() {
-        match judged_once(alloc, tests, file, prices) {
+        match judged_once(alloc, tests, file, prices, inferences) {
             Err(found) if found == fault => return Some(number),
             _ => {}
         }
@@ -98,7 +105,19 @@ pub fn first_at_fault(alloc: Global, tests: &Tests, prices: &[u8], fault: Fault)
 }
 
 /// Judges the outcome of one of the tests once, with `rw,rw` at every site.
-fn judged_once(alloc: Global, tests: &Tests, file: &File, prices: &[u8]) -> Result<Answer, Fault> {
+fn judged_once(
+    alloc: Global,
+    tests: &Tests,
+    file: &File,
+    prices: &[u8],
+    inferences: usize,
+) -> Result<Answer, Fault> {
     let asked = read_one(alloc, tests, file, prices)?;
-    fs_sites_search::solve(alloc, &asked.question, 0, 1)
+    let limits = Limits {
+        workers: 1,
+        rounds: 0,
+        steps: 1,
+        inferences,
+    };
+    fs_sites_search::solve(alloc, &asked.question, limits)
 }

@@ -14,7 +14,7 @@ use crate::held::{Held, read_files};
 use crate::output::printed;
 use crate::said::{said_of_files, together};
 use fs_app_io::Output;
-use fs_app_sites::{File, SitePrices, read_site_prices};
+use fs_app_sites::{File, Limits, SitePrices, read_site_prices};
 use fs_app_test::Kind;
 use fs_kinds::Fault;
 use fs_sites::Answer;
@@ -39,15 +39,14 @@ use std::alloc::Global;
 /// The first fault in this order: `BadPrices` and `NoTop`; of each file in turn those of a test by number and then line,
 /// and `BadLabel` of a second site label at a place; `NodeLimit` where there are more than 65,536 sites; `TooManyTraces`,
 /// `Astray` and `TooManyCandidates` of some test without the copies' FENCEs, or `NodeLimit` where the search takes more
-/// rounds or steps than so many; of each file in turn those of `test_file`, as it is written. `Memory` may come in place
+/// rounds or steps than there may be; of each file in turn those of `test_file`, as it is written. `Memory` may come in place
 /// of any answer.
 pub fn run_audit_sites(
     alloc: Global,
     files: &[File],
     prices: &[u8],
     is_json: bool,
-    most_rounds: usize,
-    most_steps: usize,
+    limits: Limits,
 ) -> Result<Output, Fault>
     ensures answer { IfOk result (λ output. IsAudited is_json files.now prices.now (string_bytes output.text)
         output.status) }
@@ -55,7 +54,7 @@ pub fn run_audit_sites(
 {
     let table = read_site_prices(alloc, prices)?;
     let held = read_files(alloc, files)?;
-    let findings = find(alloc, files, &held, &table, most_rounds, most_steps)?;
+    let findings = find(alloc, files, &held, &table, limits)?;
     Ok(printed(alloc, files, &findings, is_json)?)
 }
 
@@ -65,8 +64,7 @@ fn find(
     files: &[File],
     held: &[Held],
     prices: &SitePrices,
-    most_rounds: usize,
-    most_steps: usize,
+    limits: Limits,
 ) -> Result<Findings, Fault>
     requires sound { All (λ h. IsSound h.asked) held.now }
     requires top { IsSome (price_of (view prices.now) RwRw) }
@@ -74,8 +72,8 @@ fn find(
     ensures err { IfErr result (λ f. f ≢ Memory → IsFindFault files.now (view prices.now) held.now f) }
 {
     let asked = asked_of(alloc, held, prices)?;
-    let found = solve(alloc, &asked.question, most_rounds, most_steps)?;
-    let kinds = said_of_files(alloc, files)?;
+    let found = solve(alloc, &asked.question, limits)?;
+    let kinds = said_of_files(alloc, files, limits.inferences)?;
     Ok(findings_of(asked, together(&kinds), found))
 }
 

@@ -74,17 +74,22 @@ fn answer_of<R: Threads + Sync>(
 {
     let (answer, broken) = solve_broken_by(rt, alloc, question, limits)?;
     let parts = question.parts.as_slice();
-    let cycles = cycles_of(alloc, parts, &answer)?;
+    let cycles = cycles_of(alloc, parts, &answer, limits.inferences)?;
     Ok((answer, Grounds { cycles, broken }))
 }
 
 /// For each test the inferences of a refutation of it under the answer; nothing where that is none.
-fn cycles_of(alloc: Global, parts: &[Part], answer: &Answer) -> Result<Vec<List<Inference>>, Fault>
+fn cycles_of(
+    alloc: Global,
+    parts: &[Part],
+    answer: &Answer,
+    inferences: usize,
+) -> Result<Vec<List<Inference>>, Fault>
     requires { All IsPart parts.now }
     ensures { IfErr result (λ f. f ≢ Memory → IsSolveFault parts.now f) }
 {
     match answer {
-        Answer::Fenced { placement, .. } => refutations(alloc, parts, placement),
+        Answer::Fenced { placement, .. } => refutations(alloc, parts, placement, inferences),
         Answer::None { .. } => Ok(Vec::new(alloc)),
     }
 }

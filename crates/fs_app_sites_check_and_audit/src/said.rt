@@ -15,24 +15,28 @@ use fs_kinds::Fault;
 use std::alloc::Global;
 
 /// What is said of the bytes of a file.
-fn said_of(alloc: Global, bytes: &[u8]) -> Result<Kind, Fault>
+fn said_of(alloc: Global, bytes: &[u8], inferences: usize) -> Result<Kind, Fault>
     ensures ok { IfOk result (λ kind. (why : List ℕ) × (witness : Option Witness) × IsTested bytes.now kind why witness) }
     ensures err { IfErr result (λ f. f ≢ Memory → IsFirstTestFault bytes.now f) }
 {
     let own = read_shared(alloc, bytes)?;
-    let said = judge_test(alloc, &own)?;
+    let said = judge_test(alloc, &own, inferences)?;
     Ok(said.kind)
 }
 
 /// What is said of each file. The first fault of each file in turn, as `test` answers it. Each is read and judged as it
 /// is written.
-pub(crate) fn said_of_files(alloc: Global, files: &[File]) -> Result<Vec<Kind>, Fault>
+pub(crate) fn said_of_files(
+    alloc: Global,
+    files: &[File],
+    inferences: usize,
+) -> Result<Vec<Kind>, Fault>
     ensures ok { IfOk result (λ kinds. AreSaid files.now kinds.items) }
     ensures err { IfErr result (λ f. f ≢ Memory → IsSaidFault files.now f) }
 {
     let mut kinds = Vec::new(alloc);
     for file in files {
-        kinds.push(said_of(alloc, &file.bytes)?)?;
+        kinds.push(said_of(alloc, &file.bytes, inferences)?)?;
     }
     Ok(kinds)
 }

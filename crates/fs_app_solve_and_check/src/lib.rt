@@ -10,5 +10,5 @@ mod solve;
 
 pub use check_answer::run_check;
 pub use checked::Checked;
-pub use fs_pool_workers::{Gate, Open, Unwatched, Watch};
+pub use fs_pool_workers::{Gate, Limits, Open, Unwatched, Watch};
 pub use solve::{Found, run_solve, run_solve_alone};

@@ -26,7 +26,7 @@ use fs_cert_evidence::Forbidden;
 use fs_cert_json::Certificate;
 use fs_kinds::{Fault, Kind, Prices, read_prices};
 use fs_litmus::{Test, read_test};
-use fs_pool_workers::{Answer, Gate, Solved, Watch, solve_alone};
+use fs_pool_workers::{Answer, Gate, Limits, Solved, Watch, solve_alone};
 use fs_report::{fenced_text, fenced_value, json_line, none_text, none_value};
 use serde_json::Value;
 use std::alloc::{AllocError, Global};
@@ -47,24 +47,24 @@ pub struct Found {
 ///
 /// The first fault in this order: `BadPrices` and `NoTop`; those of a test file by number and then line;
 /// `TooManyTraces` and `Astray`; `TooManyCandidates`; `NodeLimit`, which comes only where fences are needed, `rw,rw` in
-/// every slot is enough, and the tree of all placements has more than `limit` nodes below its root. `Memory` may come
+/// every slot is enough, and the tree of all placements has more nodes below its root than the limit. `Memory` may come
 /// in place of any answer. The law `headline` of fs_app_guarantees says what an answer means.
 pub fn run_solve_alone<W: Watch>(
     alloc: Global,
     test: &[u8],
     prices: &[u8],
-    limit: usize,
+    limits: Limits,
     watch: &mut W,
 ) -> Result<Found, Fault>
-    requires least { 1 ≤ limit }
-    requires most { limit ≤ 1000000 }
+    requires least { 1 ≤ limits.nodes }
+    requires most { limits.nodes ≤ 1000000 }
     ensures found { IfOk result (λ found.
-        IsFound test.now prices.now limit (arc_value found.question) found.solved) }
-    ensures fault { IfErr result (IsFirstSolveFault test.now prices.now limit) }
+        IsFound test.now prices.now limits.nodes (arc_value found.question) found.solved) }
+    ensures fault { IfErr result (IsFirstSolveFault test.now prices.now limits.nodes) }
 {
     let question = read_question(alloc, test, prices)?;
     let asked = Arc::try_clone(&question)?;
-    let solved = solve_alone(alloc, asked, limit, watch)?;
+    let solved = solve_alone(alloc, asked, limits, watch)?;
     Ok(Found { question, solved })
 }
 
@@ -82,20 +82,20 @@ pub fn run_solve<R: Threads + Wait + Sync, G: Gate + Sync>(
     test: &[u8],
     prices: &[u8],
     workers: u8,
-    limit: usize,
+    limits: Limits,
     gate: &G,
 ) -> Result<Found, Fault>
     requires some { 1 ≤ workers }
     requires few { workers ≤ 16 }
-    requires least { 1 ≤ limit }
-    requires most { limit ≤ 1000000 }
+    requires least { 1 ≤ limits.nodes }
+    requires most { limits.nodes ≤ 1000000 }
     ensures found { IfOk result (λ found.
-        IsFound test.now prices.now limit (arc_value found.question) found.solved) }
-    ensures fault { IfErr result (IsFirstSolveFault test.now prices.now limit) }
+        IsFound test.now prices.now limits.nodes (arc_value found.question) found.solved) }
+    ensures fault { IfErr result (IsFirstSolveFault test.now prices.now limits.nodes) }
 {
     let question = read_question(alloc, test, prices)?;
     let asked = Arc::try_clone(&question)?;
-    let solved = fs_pool_workers::solve(rt, alloc, asked, workers, limit, gate)?;
+    let solved = fs_pool_workers::solve(rt, alloc, asked, workers, limits, gate)?;
     Ok(Found { question, solved })
 }
 

@@ -46,6 +46,7 @@ fn findings(
     placement: &Placement,
     columns: &[Column],
     rows: &[Row],
+    inferences: usize,
 ) -> Result<Findings, Fault>
     requires bounded { IsBounded (arc_value test.now) }
     requires starts { All IsStart (arc_value test.now).starts }
@@ -54,7 +55,7 @@ fn findings(
     ensures { IfOk result (AreFindings (arc_value test.now) placement.now columns.now (map counted rows.now)) }
 {
     let places = places_of(alloc, columns)?;
-    let states = states(alloc, test, placement, &places)?;
+    let states = states(alloc, test, placement, &places, inferences)?;
     let seen = tally_of(alloc, rows)?;
     let allowed = tally_of(alloc, &allowed_rows(alloc, states.as_slice())?)?;
     let forbidden = forbidden(alloc, &seen, &allowed)?;
@@ -106,6 +107,7 @@ fn compare_states(
     log: &[Block<'_>],
     test: &Arc<Test>,
     placement: &Placement,
+    inferences: usize,
 ) -> Result<Compared, LogError>
     requires bounded { IsBounded (arc_value test.now) }
     requires starts { All IsStart (arc_value test.now).starts }
@@ -117,7 +119,7 @@ fn compare_states(
     let name = test.name.as_str();
     let columns = first_columns(alloc, test, log, name)?;
     let rows = rows_of(alloc, test, &columns, log, name)?;
-    let findings = findings(alloc, test, placement, &columns, &rows)?;
+    let findings = findings(alloc, test, placement, &columns, &rows, inferences)?;
     Ok(held(alloc, test, &columns, &findings)?)
 }
 
@@ -141,6 +143,7 @@ fn compare_test(
     log: &[Block<'_>],
     test: &Arc<Test>,
     placement: &Placement,
+    inferences: usize,
 ) -> Result<Compared, LogError>
     requires bounded { IsBounded (arc_value test.now) }
     requires starts { All IsStart (arc_value test.now).starts }
@@ -150,7 +153,7 @@ fn compare_test(
         placement.now (states_seen log.now (arc_value test.now).name) (string_bytes made.text) made.status) }
 {
     if is_in_log(log, test.name.as_str()) {
-        compare_states(alloc, log, test, placement)
+        compare_states(alloc, log, test, placement, inferences)
     } else {
         Ok(lacking(alloc, test)?)
     }
@@ -167,6 +170,7 @@ pub fn compare(
     log: &Log<'_>,
     bytes: &[u8],
     fences: &[String],
+    inferences: usize,
 ) -> Result<Compared, LogError>
     ensures { IfOk result (λ made. IsCompared log.now bytes.now (map string_bytes fences.now) (string_bytes made.name)
         (string_bytes made.text) made.status) }
@@ -174,5 +178,5 @@ pub fn compare(
     let test = read_test(alloc, bytes)?;
     let placement = read_fences(alloc, &test, None, fences)?;
     let test = Arc::new(alloc, test)?;
-    compare_test(alloc, log.as_slice(), &test, &placement)
+    compare_test(alloc, log.as_slice(), &test, &placement, inferences)
 }

@@ -43,12 +43,13 @@ pub fn run_states(
     test: &[u8],
     fences: &[String],
     asked: Shown,
+    inferences: usize,
 ) -> Result<String, Fault>
     ensures text { IfOk result (λ text. IsStatesText test.now (map string_bytes fences.now) asked (string_bytes text)) }
     ensures fault { IfErr result (IsFirstStatesFault test.now (map string_bytes fences.now) asked) }
 {
     let read = read_test(alloc, test)?;
-    test_states(alloc, test, read, fences, asked)
+    test_states(alloc, test, read, fences, asked, inferences)
 }
 
 /// The same of a file that reads as this test.
@@ -58,6 +59,7 @@ fn test_states(
     test: Test,
     fences: &[String],
     asked: Shown,
+    inferences: usize,
 ) -> Result<String, Fault>
     requires test { IsTest test }
     requires reads { Reads bytes.now test }
@@ -67,7 +69,7 @@ fn test_states(
 {
     let columns = columns(alloc, bytes, &test, asked.all)?;
     let placement = read_fences(alloc, &test, None, fences)?;
-    owned_states(alloc, test, &placement, &columns, asked)
+    owned_states(alloc, test, &placement, &columns, asked, inferences)
 }
 
 /// What is printed of the test with the placement's fences.
@@ -77,6 +79,7 @@ fn owned_states(
     placement: &Placement,
     columns: &[Column],
     asked: Shown,
+    inferences: usize,
 ) -> Result<String, Fault>
     requires test { IsTest test }
     requires placement { slots_of placement.now ≡ slots test }
@@ -85,7 +88,7 @@ fn owned_states(
     ensures err { IfErr result (λ f. f ≢ Memory → IsStatesFault test placement.now (places_of columns.now) f) }
 {
     let test = shared(alloc, test)?;
-    placed_states(alloc, &test, placement, columns, asked)
+    placed_states(alloc, &test, placement, columns, asked, inferences)
 }
 
 /// The test, to be shared.
@@ -108,6 +111,7 @@ fn states_at(
     test: &Arc<Test>,
     placement: &Placement,
     columns: &[Column],
+    inferences: usize,
 ) -> Result<List<State>, Fault>
     requires bounded { IsBounded (arc_value test.now) }
     requires starts { All IsStart (arc_value test.now).starts }
@@ -120,7 +124,7 @@ fn states_at(
         → IsStatesFault (arc_value test.now) placement.now (places_of columns.now) f) }
 {
     let places = places_of(alloc, columns)?;
-    states(alloc, test, placement, &places)
+    states(alloc, test, placement, &places, inferences)
 }
 
 /// What is printed of these states, of which those are shown that count.
@@ -149,6 +153,7 @@ fn placed_states(
     placement: &Placement,
     columns: &[Column],
     asked: Shown,
+    inferences: usize,
 ) -> Result<String, Fault>
     requires bounded { IsBounded (arc_value test.now) }
     requires starts { All IsStart (arc_value test.now).starts }
@@ -159,6 +164,6 @@ fn placed_states(
     ensures err { IfErr result (λ f. f ≢ Memory
         → IsStatesFault (arc_value test.now) placement.now (places_of columns.now) f) }
 {
-    let states = states_at(alloc, test, placement, columns)?;
+    let states = states_at(alloc, test, placement, columns, inferences)?;
     counted_text(alloc, test, placement, columns, asked, states)
 }

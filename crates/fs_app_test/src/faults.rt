@@ -29,7 +29,7 @@ pub fn fault_object(
 fn object_of(alloc: Global, file: &str, fault: Fault, note: Note) -> Result<String, Fault>
     ensures { IfOk result (λ text. IsFaultObject fault (string_bytes text)) }
 {
-    let mut line = test_file(alloc, file, Err(fault))?;
+    let mut line = test_file(alloc, file, Err(fault), 0)?;
     line.note = Some(note);
     let mut lines = Vec::new(alloc);
     lines.push(line)?;

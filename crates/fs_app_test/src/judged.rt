@@ -20,13 +20,13 @@ use std::alloc::{AllocError, Global};
 use std::sync::Arc;
 
 /// What is said of the test, or the fault of its runs or candidates.
-pub(crate) fn judge(alloc: Global, test: Test) -> Result<Said, Fault>
+pub(crate) fn judge(alloc: Global, test: Test, inferences: usize) -> Result<Said, Fault>
     requires { IsTest test }
     ensures ok { IfOk result (λ said. IsTestedAs test said.kind (string_bytes said.why) (witness_in said.witness)) }
     ensures err { IfErr result (λ f. f ≢ Memory → IsFaultOf test f) }
 {
     let test = shared(alloc, test)?;
-    judge_test(alloc, &test)
+    judge_test(alloc, &test, inferences)
 }
 
 /// The test, to be shared.
@@ -36,13 +36,14 @@ pub(crate) fn shared(alloc: Global, test: Test) -> Result<Arc<Test>, AllocError>
     Ok(Arc::new(alloc, test)?)
 }
 
-/// What is said of a test as it is written, with no fence placed: whether it can show its outcome, and why.
+/// What is said of a test as it is written, with no fence placed: whether it can show its outcome, and why. A hunt may
+/// make so many inferences before it gives up.
 ///
 /// The first fault in this order: `TooManyTraces` and `Astray`; `TooManyCandidates`, which doesn't come where the test
 /// is found to be vacuous. It comes also where it is left open whether the test is vacuous, and what forbids the
 /// outcome has no contradiction. `Memory` may come in place of any answer. The cost is that of `Basis::new`, of
 /// `is_vacuous` of fs_judge_outcomes, and of `Problem::over` and `Judge::verdict` of fs_judge.
-pub fn judge_test(alloc: Global, test: &Arc<Test>) -> Result<Said, Fault>
+pub fn judge_test(alloc: Global, test: &Arc<Test>, inferences: usize) -> Result<Said, Fault>
     requires bounded { IsBounded (arc_value test.now) }
     requires starts { All IsStart (arc_value test.now).starts }
     ensures ok { IfOk result (λ said.
@@ -52,8 +53,8 @@ pub fn judge_test(alloc: Global, test: &Arc<Test>) -> Result<Said, Fault>
     let basis = Basis::new(alloc, test)?;
     match vacuous(alloc, test, &basis)? {
         Vacuity::Vacuous(said) => Ok(said),
-        Vacuity::Serious => judge_serious(alloc, test, basis, true),
-        Vacuity::Open => judge_serious(alloc, test, basis, false),
+        Vacuity::Serious => judge_serious(alloc, test, basis, true, inferences),
+        Vacuity::Open => judge_serious(alloc, test, basis, false, inferences),
     }
 }
 
@@ -63,6 +64,7 @@ fn judge_serious(
     test: &Arc<Test>,
     basis: Basis,
     is_settled: bool,
+    inferences: usize,
 ) -> Result<Said, Fault>
     requires same { basis ≡ arc_value test.now }
     requires listable { CanBeListed (arc_value test.now) }
@@ -73,7 +75,7 @@ fn judge_serious(
     ensures err { IfErr result (λ f. f ≢ Memory →
         IsCandidateFault (arc_value test.now) f ⊎ ((f ≡ TooManyCandidates) × IsLeftOpen (arc_value test.now))) }
 {
-    let verdict = verdict(alloc, test, basis)?;
+    let verdict = verdict(alloc, test, basis, inferences)?;
     said_of(alloc, verdict, is_settled)
 }
 
@@ -88,7 +90,12 @@ fn no_fences(alloc: Global, test: &Test) -> Result<Placement, Fault>
 }
 
 /// The verdict on the test with these runs, and with no fence in any slot.
-fn verdict(alloc: Global, test: &Arc<Test>, basis: Basis) -> Result<Verdict, Fault>
+fn verdict(
+    alloc: Global,
+    test: &Arc<Test>,
+    basis: Basis,
+    inferences: usize,
+) -> Result<Verdict, Fault>
     requires same { basis ≡ arc_value test.now }
     requires listable { CanBeListed (arc_value test.now) }
     requires starts { All IsStart (arc_value test.now).starts }
@@ -96,7 +103,7 @@ fn verdict(alloc: Global, test: &Arc<Test>, basis: Basis) -> Result<Verdict, Fau
     ensures err { IfErr result (λ f. f ≢ Memory → IsCandidateFault (arc_value test.now) f) }
 {
     let placement = no_fences(alloc, test)?;
-    let problem = Problem::over(alloc, Arc::try_clone(test)?, basis)?;
+    let problem = Problem::over(alloc, Arc::try_clone(test)?, basis, inferences)?;
     let mut judge = Judge::new(alloc, Arc::new(alloc, problem)?);
     judge.verdict(alloc, &placement, &[])
 }

@@ -39,6 +39,8 @@ pub struct Wants {
     pub tests: bool,
     /// Which forms of a test are read beside the reader's own.
     pub forms: Forms,
+    /// How many inferences each hunt may make.
+    pub inferences: usize,
 }
 
 /// What is said of files, in their order: a line of each, and messages of those that aren't tests, or weren't read.
@@ -77,13 +79,13 @@ fn has_more(kind: Kind) -> bool {
 }
 
 /// What is said of a file that was read.
-fn tested_bytes(alloc: Global, name: &str, bytes: Vec<u8>, keeps: bool) -> Result<Tested, Fault> {
-    let kept = if keeps {
+fn tested_bytes(alloc: Global, name: &str, bytes: Vec<u8>, wants: Wants) -> Result<Tested, Fault> {
+    let kept = if wants.tests {
         Vec::from_slice(alloc, &bytes)?
     } else {
         Vec::new(alloc)
     };
-    let line = test_file(alloc, name, Ok(bytes))?;
+    let line = test_file(alloc, name, Ok(bytes), wants.inferences)?;
     if has_more(line.said.kind) {
         return Ok(Tested { line, test: kept });
     }
@@ -95,7 +97,7 @@ fn tested_bytes(alloc: Global, name: &str, bytes: Vec<u8>, keeps: bool) -> Resul
 
 /// What is said of a file that wasn't read, for this fault.
 fn unread(alloc: Global, name: &str, fault: Fault) -> Result<Tested, Fault> {
-    let line = test_file(alloc, name, Err(fault))?;
+    let line = test_file(alloc, name, Err(fault), 0)?;
     Ok(Tested {
         line,
         test: Vec::new(alloc),
@@ -107,10 +109,10 @@ fn tested_file(
     alloc: Global,
     name: &str,
     file: Result<Vec<u8>, Unusable>,
-    keeps: bool,
+    wants: Wants,
 ) -> Result<Tested, Fault> {
     match file {
-        Ok(bytes) => tested_bytes(alloc, name, bytes, keeps),
+        Ok(bytes) => tested_bytes(alloc, name, bytes, wants),
         Err(why) => unread(alloc, name, why.fault()),
     }
 }
@@ -165,7 +167,7 @@ impl Batch {
         } else {
             None
         };
-        let tested = tested_file(alloc, name, file, wants.tests)?.with_expected(expected);
+        let tested = tested_file(alloc, name, file, wants)?.with_expected(expected);
         let noted = if wants.notes {
             tested.with_note(alloc, note)?
         } else {

@@ -33,6 +33,8 @@ pub struct Papers<'a> {
     pub fences: &'a [String],
     /// Which forms of a test are read beside the reader's own.
     pub forms: Forms,
+    /// How many inferences each hunt may make.
+    pub inferences: usize,
     /// Whether accesses of a word stand in the test for those of 64 bits.
     pub is_wide: bool,
     /// Whether mnemonics of the test are hidden, as `Plain` says.
@@ -49,13 +51,14 @@ pub struct Papers<'a> {
 
 impl<'a> Papers<'a> {
     /// Nothing was read yet.
-    pub fn new(alloc: Global, forms: Forms) -> Self {
+    pub fn new(alloc: Global, forms: Forms, inferences: usize) -> Self {
         Papers {
             test: no_paper(alloc),
             prices: no_paper(alloc),
             evidence: no_paper(alloc),
             fences: &[],
             forms,
+            inferences,
             is_wide: false,
             is_hidden: false,
             is_guarded: false,

@@ -82,14 +82,19 @@ fn shown_text(
     }
 }
 
-/// The verdict on the test with these fences: that of a judge that has judged nothing. The faults are those of `verdict` of
-/// fs_judge.
-pub fn verdict_on(alloc: Global, test: &Arc<Test>, placement: &Placement) -> Result<Verdict, Fault>
+/// The verdict on the test with these fences: that of a judge that has judged nothing, whose hunts may make so many
+/// inferences. The faults are those of `verdict` of fs_judge.
+pub fn verdict_on(
+    alloc: Global,
+    test: &Arc<Test>,
+    placement: &Placement,
+    inferences: usize,
+) -> Result<Verdict, Fault>
     requires { IsTest (arc_value test.now) }
     ensures ok { IfOk result (IsVerdict (arc_value test.now) placement.now) }
     ensures err { IfErr result (λ f. f ≢ Memory → IsCandidateFault (arc_value test.now) f) }
 {
-    let problem = Problem::new(alloc, Arc::try_clone(test)?)?;
+    let problem = Problem::new(alloc, Arc::try_clone(test)?, inferences)?;
     problem.judged(alloc, placement, &[])
 }
 
@@ -102,6 +107,7 @@ pub fn forbidden_text(
     lines: &[List<usize>],
     telling: Telling,
     placement: &Placement,
+    inferences: usize,
 ) -> Result<Option<String>, Fault>
     requires { IsTest (arc_value test.now) }
     ensures some { IfOk result (λ found. IfSome found (λ text.
@@ -109,7 +115,7 @@ pub fn forbidden_text(
     ensures none { IfOk result (λ found. IfNone found (Allows (arc_value test.now) placement.now)) }
     ensures err { IfErr result (λ f. f ≢ Memory → IsCandidateFault (arc_value test.now) f) }
 {
-    let verdict = verdict_on(alloc, test, placement)?;
+    let verdict = verdict_on(alloc, test, placement, inferences)?;
     match verdict {
         Verdict::Forbids(forbidden) => {
             let text = shown_text(alloc, test, lines, telling, placement, &forbidden.cycles)?;
@@ -159,6 +165,7 @@ fn asked_text(
     lines: &[List<usize>],
     telling: Telling,
     placement: &Placement,
+    inferences: usize,
 ) -> Result<Option<String>, Fault>
     requires { IsTest (arc_value test.now) }
     ensures some { IfOk result (λ found. IfSome found (λ text.
@@ -171,16 +178,22 @@ fn asked_text(
         let text = unwritten_text(alloc, telling)?;
         return Ok(Some(text));
     }
-    forbidden_text(alloc, test, lines, telling, placement)
+    forbidden_text(alloc, test, lines, telling, placement, inferences)
 }
 
 /// What is told of a test that forbids its outcome as it is written: the ends of a refutation as chains of operations,
 /// those that are the same but for the harts together, as many as `telling` says; nothing where a list of candidates
 /// shows it. Where one fence is asked for, and the instruction is no FENCE, a line says so. None where an execution
-/// shows the outcome. The test is judged once more, as `judge_test` of fs_app_test does. The faults are those of
+/// shows the outcome. The test is judged once more, as `judge_test` of fs_app_test does, by a hunt of at most so many
+/// inferences. The faults are those of
 /// `read_test`, of `Problem::new` and of `Problem::judged`. The cost is that of these three, of `chains` and `kinds_of`
 /// of fs_app_why, and of `contradictions_text`.
-pub fn why_forbidden(alloc: Global, telling: Telling, test: &[u8]) -> Result<Option<String>, Fault>
+pub fn why_forbidden(
+    alloc: Global,
+    telling: Telling,
+    test: &[u8],
+    inferences: usize,
+) -> Result<Option<String>, Fault>
     ensures some { IfOk result (λ found.
         IfSome found (λ text. IsForbiddenWhy telling test.now (string_bytes text))) }
     ensures none { IfOk result (λ found. IfNone found (IsAllowed test.now)) }
@@ -190,5 +203,5 @@ pub fn why_forbidden(alloc: Global, telling: Telling, test: &[u8]) -> Result<Opt
     let lines = lines_of(alloc, test)?;
     let placement = no_fences(alloc, &read)?;
     let read = Arc::new(alloc, read)?;
-    asked_text(alloc, &read, &lines, telling, &placement)
+    asked_text(alloc, &read, &lines, telling, &placement, inferences)
 }

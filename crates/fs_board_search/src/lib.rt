@@ -7,6 +7,7 @@ mod answer;
 mod closing;
 mod codes;
 mod floor_and_filled;
+mod limits;
 mod next_node;
 mod plan;
 mod scout;
@@ -17,7 +18,8 @@ mod taken;
 mod watch;
 
 pub use answer::{Answer, Solved};
-pub use fs_judge::{Chase, Crew, Learned, Left, Others, Piece, Problem, Team};
+pub use fs_judge::{Chase, Crew, Learned, Left, Others, Piece, Problem, Team, USUAL_INFERENCES};
+pub use limits::Limits;
 pub use scout::{Scout, TRIES, Way};
 pub use solving::{cheapest, conclude, problem_of, solve, solve_problem};
 pub use sweep::{search, search_alone};

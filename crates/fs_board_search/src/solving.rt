@@ -21,6 +21,7 @@ ghost use Rattle.fs_board_search.specs.Histories.{GoesOn};
 
 use crate::Watch;
 use crate::answer::{Answer, Solved};
+use crate::limits::Limits;
 use crate::sweep::search;
 use fs_board::Board;
 use fs_board_offers::{Offers, Question};
@@ -173,8 +174,13 @@ pub fn conclude<W: Watch>(
     }
 }
 
-/// The problem of the question's test, to be shared. The faults are those of `Problem::new`.
-pub fn problem_of(alloc: Global, question: &Arc<Question>) -> Result<Arc<Problem>, Fault>
+/// The problem of the question's test, to be shared, whose hunts may make so many inferences each. The faults are those
+/// of `Problem::new`.
+pub fn problem_of(
+    alloc: Global,
+    question: &Arc<Question>,
+    inferences: usize,
+) -> Result<Arc<Problem>, Fault>
     requires bounded { IsBounded (arc_value question.now).test }
     requires starts { All IsStart (arc_value question.now).test.starts }
     ensures same { IfOk result (λ problem. (arc_value question.now).test ≡ arc_value problem) }
@@ -182,14 +188,14 @@ pub fn problem_of(alloc: Global, question: &Arc<Question>) -> Result<Arc<Problem
     ensures err { IfErr result (λ f. f ≢ Fault.Memory → IsCandidateFault (arc_value question.now).test f) }
 {
     let test = Arc::try_clone(question.test())?;
-    let problem = Problem::shared(alloc, test)?;
+    let problem = Problem::shared(alloc, test, inferences)?;
     Ok(problem)
 }
 
 /// The answer to a question at the test's slots: the cheapest placement that forbids the outcome, of several the first,
-/// or a witness that none does. No node of the search has a number above the limit. F16 comes only where fences are needed, `rw,rw` in
-/// every slot is enough, and the tree of all placements may have more nodes below its root than the limit. F13 to F15
-/// come where the candidates can't be listed; or F19.
+/// or a witness that none does. No node of the search has a number above the limit of nodes. F16 comes only where fences
+/// are needed, `rw,rw` in every slot is enough, and the tree of all placements may have more nodes below its root than
+/// that limit. F13 to F15 come where the candidates can't be listed; or F19.
 ///
 /// The finished board is handed out with the answer, and its bound is the answer's placement. There is none only where
 /// the tree of all placements may have more nodes below its root than the limit, and then the answer is none or no
@@ -200,22 +206,22 @@ pub fn problem_of(alloc: Global, question: &Arc<Question>) -> Result<Arc<Problem
 pub fn solve<W: Watch>(
     alloc: Global,
     question: Arc<Question>,
-    limit: usize,
+    limits: Limits,
     watch: &mut W,
 ) -> Result<Solved, Fault>
     requires test { IsBounded (arc_value question).test }
     requires starts { All IsStart (arc_value question).test.starts }
     requires slots { IsAtSlots (arc_value question) }
     requires top { HasTop (arc_value question).offers }
-    requires some { 1 ≤ limit }
-    requires limit { limit ≤ 1000000 }
+    requires some { 1 ≤ limits.nodes }
+    requires limit { limits.nodes ≤ 1000000 }
     ensures ok { IfOk result (λ s. IsAnswer (arc_value question).test (arc_value question).offers s.answer) }
     ensures clean { OnOk result (HasNoRunFault (arc_value question).test) }
-    ensures rests { IfOk result (Rests (arc_value question) limit) }
-    ensures err { IfErr result (λ f. f ≢ Fault.Memory → IsSolveFault (arc_value question) limit f) }
+    ensures rests { IfOk result (Rests (arc_value question) limits.nodes) }
+    ensures err { IfErr result (λ f. f ≢ Fault.Memory → IsSolveFault (arc_value question) limits.nodes f) }
 {
-    let problem = problem_of(alloc, &question)?;
-    let solved = solve_problem(alloc, question, problem, limit, watch)?;
+    let problem = problem_of(alloc, &question, limits.inferences)?;
+    let solved = solve_problem(alloc, question, problem, limits.nodes, watch)?;
     Ok(solved)
 }
 

@@ -120,8 +120,8 @@ impl Judge {
 
     /// Whether the placement forbids the outcome, wherever its fences stand: the executions that were found before are
     /// tried first, and then a hunt, which begins with what earlier ones have kept, finds a refutation or a new
-    /// execution. Where it gives up, after 1,000,000 inferences, all candidates are judged in turn, and F15 comes where
-    /// they are too many; else the error is F19. The cost is that of `look`, of the hunt, and of checking what it
+    /// execution. Where it gives up, all candidates are judged in turn, and F15 comes where they are too many;
+    /// else the error is F19. The cost is that of `look`, of the hunt, and of checking what it
     /// finds, as of `Problem::verdict`.
     pub fn verdict(
         &mut self,
@@ -138,7 +138,7 @@ impl Judge {
 
     /// The same, where the team may hunt: others join where one has looked at 300 regions. What is found is checked as
     /// any hunt's is, by all where there are 1,000 inferences. Which witness or refutation it is depends on their turns,
-    /// whether it is a witness doesn't; but near the 1,000,000 inferences whether F15 comes may.
+    /// whether it is a witness doesn't; but near the end of what a hunt may infer whether F15 comes may.
     pub fn verdict_by<T: Team>(
         &mut self,
         alloc: Global,

@@ -24,6 +24,6 @@ mod verdict;
 pub use fs_judge_hunt::{Alone, Chase, Crew, Learned, Left, Others, Piece};
 pub use hunters::{hunter_asking, hunter_of};
 pub use judge::Judge;
-pub use problem::Problem;
+pub use problem::{Problem, USUAL_INFERENCES};
 pub use team::Team;
 pub use verdict::Verdict;

@@ -29,8 +29,8 @@ use std::alloc::Global;
 use std::marker::Model;
 use std::sync::Arc;
 
-/// How many inferences a hunt may make before it gives up.
-const MOST_INFERENCES: usize = 1_000_000;
+/// How many inferences a hunt may make before it gives up, where nobody asks for another number.
+pub const USUAL_INFERENCES: usize = 1_000_000;
 
 /// A test with all that judging a placement takes: all runs of each hart, and what hunts over them need. No call
 /// changes it, so several workers may share one. Contracts see the test.
@@ -39,6 +39,7 @@ pub struct Problem {
     test: Arc<Test>,
     basis: Basis,
     hunter: Hunter,
+    inferences: usize,
 }
 
 impl Model for Problem {
@@ -73,10 +74,10 @@ fn hunter_over(alloc: Global, basis: &Basis) -> Result<Hunter, Fault>
 }
 
 impl Problem {
-    /// Finds all runs of the test's harts, and makes them ready. The test is bounded, and its harts start with whole
-    /// registers. The fault is F13 or F14 where a hart's runs can't be listed; else that of `Problem::over`. The cost
-    /// is that of `Basis::new` and of `Problem::over`.
-    pub fn new(alloc: Global, test: Arc<Test>) -> Result<Problem, Fault>
+    /// Finds all runs of the test's harts, and makes them ready. Each hunt may make so many inferences before it gives
+    /// up. The test is bounded, and its harts start with whole registers. The fault is F13 or F14 where a hart's runs
+    /// can't be listed; else that of `Problem::over`. The cost is that of `Basis::new` and of `Problem::over`.
+    pub fn new(alloc: Global, test: Arc<Test>, inferences: usize) -> Result<Problem, Fault>
         requires bounded { IsBounded (arc_value test) }
         requires starts { All IsStart (arc_value test).starts }
         ensures value { IfOk result (λ p. p ≡ arc_value test) }
@@ -84,14 +85,19 @@ impl Problem {
         ensures err { IfErr result (λ f. f ≢ Memory → IsCandidateFault (arc_value test) f) }
     {
         let basis = Basis::new(alloc, &test)?;
-        let problem = Problem::over(alloc, test, basis)?;
+        let problem = Problem::over(alloc, test, basis, inferences)?;
         Ok(problem)
     }
 
     /// The same of a test whose runs are found. The fault is F15 where a hart may store 11 times or more to one
     /// location in one run, and there are too many candidates or lists of runs; or F19. The cost is that of
     /// `hunter_of`, and where so many stores are possible that of `check_number`.
-    pub fn over(alloc: Global, test: Arc<Test>, basis: Basis) -> Result<Problem, Fault>
+    pub fn over(
+        alloc: Global,
+        test: Arc<Test>,
+        basis: Basis,
+        inferences: usize,
+    ) -> Result<Problem, Fault>
         requires same { basis ≡ arc_value test }
         requires listable { CanBeListed (arc_value test) }
         requires starts { All IsStart (arc_value test).starts }
@@ -103,11 +109,12 @@ impl Problem {
             test,
             basis,
             hunter,
+            inferences,
         })
     }
 
-    /// The problem of another test with the same program, whose runs are these. The error is F19. The cost is that of
-    /// `Basis::asking` and of `hunter_asking`.
+    /// The problem of another test with the same program, whose runs are these, and whose hunts give up as soon. The
+    /// error is F19. The cost is that of `Basis::asking` and of `hunter_asking`.
     pub fn asking(&self, alloc: Global, test: Arc<Test>) -> Result<Problem, Fault>
         requires bounded { IsBounded (arc_value test) }
         requires same { program_of self.now ≡ program_of (arc_value test) }
@@ -120,18 +127,19 @@ impl Problem {
             test,
             basis,
             hunter,
+            inferences: self.inferences,
         })
     }
 
     /// The same as of `Problem::new`, to be shared by several judges.
-    pub fn shared(alloc: Global, test: Arc<Test>) -> Result<Arc<Problem>, Fault>
+    pub fn shared(alloc: Global, test: Arc<Test>, inferences: usize) -> Result<Arc<Problem>, Fault>
         requires bounded { IsBounded (arc_value test) }
         requires starts { All IsStart (arc_value test).starts }
         ensures value { IfOk result (λ p. arc_value p ≡ arc_value test) }
         ensures clean { OnOk result ((f : Fault) → IsRunFault (arc_value test) f → ⊥) }
         ensures err { IfErr result (λ f. f ≢ Memory → IsCandidateFault (arc_value test) f) }
     {
-        let problem = Problem::new(alloc, test)?;
+        let problem = Problem::new(alloc, test, inferences)?;
         Ok(Arc::new(alloc, problem)?)
     }
 
@@ -159,7 +167,7 @@ impl Problem {
     {
         let found = self
             .hunter
-            .hunt_by(alloc, kept, placement, MOST_INFERENCES, team)?;
+            .hunt_by(alloc, kept, placement, self.inferences, team)?;
         if matches!(&found, Found::GaveUp) {
             return Ok(Some(Sought::Nothing));
         }
@@ -260,8 +268,8 @@ impl Problem {
     /// Whether the placement forbids the outcome, wherever its fences stand. A hunt finds a refutation, or of the
     /// executions that show the outcome the one whose candidate comes first, whose witness is widened at the first
     /// slots before the others. What is answered doesn't depend on earlier calls, unlike what a `Judge` answers. Where
-    /// the hunt gives up, after 1,000,000 inferences, all candidates are judged in turn, and F15 comes where they are
-    /// too many; else the error is F19. The cost is that of `Hunter::first`, and that of checking what it finds: of
+    /// the hunt gives up, all candidates are judged in turn, and F15 comes where they are too many;
+    /// else the error is F19. The cost is that of `Hunter::first`, and that of checking what it finds: of
     /// `reason_against`, or of `shown_by` and `widest_witness`.
     pub fn verdict(
         &self,
@@ -272,7 +280,7 @@ impl Problem {
         ensures ok { IfOk result (IsVerdict self.now placement.now) }
         ensures err { IfErr result (λ f. f ≢ Memory → IsCandidateFault self.now f) }
     {
-        let found = self.hunter.first(alloc, placement, MOST_INFERENCES)?;
+        let found = self.hunter.first(alloc, placement, self.inferences)?;
         match checked(alloc, &self.basis, placement, found, &Alone)? {
             Sought::Refuted(inferences) => self.refuted(placement, inferences),
             Sought::Shown(known) => self.shown(alloc, &known, placement, first),

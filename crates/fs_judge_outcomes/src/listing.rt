@@ -117,7 +117,7 @@ fn all_states(
 /// Which final states RVWMO allows the test with the placement's fences: of each state in which some execution ends
 /// the words at the places, in their order, and an execution that ends in it. The states rise by their words, those
 /// at the first place before the others. The test's condition plays no part. The placement is one of the test's
-/// slots, and the places are the test's own.
+/// slots, and the places are the test's own. Each hunt may make so many inferences before it gives up.
 ///
 /// The fault is F13 or F14 where a hart's runs can't be listed; else F15 where a hart may store 11 times or more to
 /// one location in one run and there are too many candidates or lists of runs, where no hunt gives a verdict and there
@@ -134,6 +134,7 @@ pub fn states(
     test: &Arc<Test>,
     placement: &Placement,
     places: &[Place],
+    inferences: usize,
 ) -> Result<List<State>, Fault>
     requires bounded { IsBounded (arc_value test.now) }
     requires starts { All IsStart (arc_value test.now).starts }
@@ -145,6 +146,6 @@ pub fn states(
     ensures few { IfOk result (λ found. length found ≤ most_states) }
     ensures err { IfErr result (λ f. f ≢ Memory → IsStatesFault (arc_value test.now) placement.now places.now f) }
 {
-    let problem = Problem::new(alloc, Arc::try_clone(test)?)?;
+    let problem = Problem::new(alloc, Arc::try_clone(test)?, inferences)?;
     all_states(alloc, &problem, placement, places)
 }

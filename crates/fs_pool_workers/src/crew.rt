@@ -19,7 +19,7 @@ use crate::work::Workplace;
 use fs_board::Board;
 use fs_board_offers::Question;
 use fs_board_search::{
-    Problem, Solved, Unwatched, conclude, problem_of, search_alone, solve_problem,
+    Limits, Problem, Solved, Unwatched, conclude, problem_of, search_alone, solve_problem,
 };
 use fs_cert_evidence::Witness;
 use fs_kinds::Fault;
@@ -212,7 +212,7 @@ pub fn solve<R: Threads + Wait + Sync, G: Gate + Sync>(
     alloc: Global,
     question: Arc<Question>,
     workers: u8,
-    limit: usize,
+    limits: Limits,
     gate: &G,
 ) -> Result<Solved, Fault>
     requires test { IsBounded (arc_value question).test }
@@ -221,19 +221,19 @@ pub fn solve<R: Threads + Wait + Sync, G: Gate + Sync>(
     requires top { HasTop (arc_value question).offers }
     requires some { 1 ≤ workers }
     requires few { workers ≤ 16 }
-    requires least { 1 ≤ limit }
-    requires most { limit ≤ 1000000 }
+    requires least { 1 ≤ limits.nodes }
+    requires most { limits.nodes ≤ 1000000 }
     ensures ok { IfOk result (λ s. IsAnswer (arc_value question).test (arc_value question).offers s.answer) }
     ensures clean { OnOk result (HasNoRunFault (arc_value question).test) }
-    ensures rests { IfOk result (Rests (arc_value question) limit) }
-    ensures err { IfErr result (λ f. f ≢ Fault.Memory → IsSolveFault (arc_value question) limit f) }
+    ensures rests { IfOk result (Rests (arc_value question) limits.nodes) }
+    ensures err { IfErr result (λ f. f ≢ Fault.Memory → IsSolveFault (arc_value question) limits.nodes f) }
 {
     if workers == 1 {
-        return fs_board_search::solve(alloc, question, limit, &mut Alone { gate });
+        return fs_board_search::solve(alloc, question, limits, &mut Alone { gate });
     }
-    let problem = problem_of(alloc, &question)?;
+    let problem = problem_of(alloc, &question, limits.inferences)?;
     let hunters = Hunters::new(rt, workers);
-    let mut board = opened(alloc, &question, limit)?;
+    let mut board = opened(alloc, &question, limits.nodes)?;
     let Some(met) = begin(alloc, &problem, &mut board, &hunters, gate)? else {
         let solved = conclude(alloc, problem, board, &mut Unwatched)?;
         return Ok(solved);
@@ -243,6 +243,6 @@ pub fn solve<R: Threads + Wait + Sync, G: Gate + Sync>(
     if let Some(solved) = found {
         return Ok(solved);
     }
-    let solved = solve_problem(alloc, question, problem, limit, &mut Unwatched)?;
+    let solved = solve_problem(alloc, question, problem, limits.nodes, &mut Unwatched)?;
     Ok(solved)
 }

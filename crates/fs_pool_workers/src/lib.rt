@@ -10,6 +10,6 @@ mod hunters;
 mod work;
 
 pub use crew::solve;
-pub use fs_board_search::{Answer, Solved, Unwatched, Watch, solve as solve_alone};
+pub use fs_board_search::{Answer, Limits, Solved, Unwatched, Watch, solve as solve_alone};
 pub use gate::{Gate, Open};
 pub use hunters::Hunters;

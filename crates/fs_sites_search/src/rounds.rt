@@ -12,6 +12,7 @@ ghost use Rattle.fs_sites.specs.Questions.{AllowsIn, IsPart, IsQuestion, image, 
 ghost use Rattle.fs_sites.specs.Answers.{IsAnswer, IsShownIn, IsSolveFault, IsPartFault};
 ghost use Rattle.fs_sites.specs.inner.Bars.{IsBarOf, IsShownBySome, ForbidBetween};
 
+use crate::limits::Limits;
 use fs_board_offers::Offers;
 use fs_cert_evidence::{Cycles, Inference, Pairs, Witness};
 use fs_judge::{Judge, Problem, Verdict};
@@ -21,25 +22,25 @@ use std::alloc::{AllocError, Global};
 use std::sync::Arc;
 
 /// A judge of the test.
-fn judge_of(alloc: Global, part: &Part) -> Result<Judge, Fault>
+fn judge_of(alloc: Global, part: &Part, inferences: usize) -> Result<Judge, Fault>
     requires { IsPart part.now }
     ensures ok { IfOk result (λ judge. judge ≡ part.now.test) }
     ensures err { IfErr result (λ f. f ≢ Memory → IsCandidateFault part.now.test f) }
 {
     let test = Arc::try_clone(&part.test)?;
-    let problem = Problem::shared(alloc, test)?;
+    let problem = Problem::shared(alloc, test, inferences)?;
     Ok(Judge::new(alloc, problem))
 }
 
 /// A judge of each test.
-fn judges_of(alloc: Global, parts: &[Part]) -> Result<Vec<Judge>, Fault>
+fn judges_of(alloc: Global, parts: &[Part], inferences: usize) -> Result<Vec<Judge>, Fault>
     requires { All IsPart parts.now }
     ensures ok { IfOk result (λ judges. judges.items ≡ map (λ part. part.test) parts.now) }
     ensures err { IfErr result (λ f. f ≢ Memory → IsPartFault parts.now f) }
 {
     let mut judges = Vec::new(alloc);
     for part in parts {
-        judges.push(judge_of(alloc, part)?)?;
+        judges.push(judge_of(alloc, part, inferences)?)?;
     }
     Ok(judges)
 }
@@ -164,8 +165,7 @@ fn by_rounds(
     parts: &[Part],
     offers: &Offers,
     judges: &mut [Judge],
-    most_rounds: usize,
-    most_steps: usize,
+    limits: Limits,
 ) -> Result<(Answer, Vec<(usize, Witness)>), Fault>
     requires parts { All IsPart parts.now }
     requires top { HasTop offers.now }
@@ -178,8 +178,8 @@ fn by_rounds(
     let mut bars = Vec::new(alloc);
     let mut broken = Vec::new(alloc);
     let mut first = 0;
-    for _ in 0..most_rounds {
-        let found = first_breaking(alloc, offers, &bars, most_steps)?;
+    for _ in 0..limits.rounds {
+        let found = first_breaking(alloc, offers, &bars, limits.steps)?;
         let Some(placement) = found else {
             unreachable!()
         };
@@ -196,20 +196,16 @@ fn by_rounds(
 }
 
 /// The cheapest fences of the sites that forbid the outcome of each test, and of those the first; or that even `rw,rw`
-/// at each site allows one. F16 where that isn't found in so many rounds, or where a plan takes more steps than so many;
+/// at each site allows one. One worker searches. F16 where that isn't found in as many rounds as there may be, or where a
+/// plan takes more steps than it may;
 /// F13 to F15 where a verdict can't be made for the candidates of a test; or F19. The cost is that of a judge for each
 /// test, and in each round that of a plan and of at most one verdict for each test.
-pub fn solve(
-    alloc: Global,
-    question: &Question,
-    most_rounds: usize,
-    most_steps: usize,
-) -> Result<Answer, Fault>
+pub fn solve(alloc: Global, question: &Question, limits: Limits) -> Result<Answer, Fault>
     requires { IsQuestion question.now }
     ensures ok { IfOk result (IsAnswer question.now) }
     ensures err { IfErr result (λ f. f ≢ Memory → IsSolveFault question.now.parts f) }
 {
-    let (answer, _) = solve_broken(alloc, question, most_rounds, most_steps)?;
+    let (answer, _) = solve_broken(alloc, question, limits)?;
     Ok(answer)
 }
 
@@ -218,8 +214,7 @@ pub fn solve(
 pub fn solve_broken(
     alloc: Global,
     question: &Question,
-    most_rounds: usize,
-    most_steps: usize,
+    limits: Limits,
 ) -> Result<(Answer, Vec<(usize, Witness)>), Fault>
     requires { IsQuestion question.now }
     ensures ok { IfOk result (λ found. IsAnswer question.now found.0) }
@@ -227,11 +222,11 @@ pub fn solve_broken(
 {
     let parts = question.parts.as_slice();
     let offers = &question.offers;
-    let mut judges = judges_of(alloc, parts)?;
+    let mut judges = judges_of(alloc, parts, limits.inferences)?;
     if let Some((part, witness)) = allowing_top(alloc, parts, offers, &mut judges)? {
         return Ok((Answer::None { part, witness }, Vec::new(alloc)));
     }
-    by_rounds(alloc, parts, offers, &mut judges, most_rounds, most_steps)
+    by_rounds(alloc, parts, offers, &mut judges, limits)
 }
 
 /// The inferences, where what shows that an outcome is forbidden isn't a list of cycles.
@@ -246,11 +241,16 @@ fn inferences_in(cycles: Cycles) -> Result<List<Inference>, Fault>
 
 /// The inferences that refute the test with these fences of the sites, which forbid its outcome. F16 where a refutation
 /// isn't found; else as a verdict.
-fn refutation(alloc: Global, part: &Part, placement: &Placement) -> Result<List<Inference>, Fault>
+fn refutation(
+    alloc: Global,
+    part: &Part,
+    placement: &Placement,
+    inferences: usize,
+) -> Result<List<Inference>, Fault>
     requires { IsPart part.now }
     ensures { IfErr result (λ f. f ≢ Memory → (f ≡ NodeLimit) ⊎ IsCandidateFault part.now.test f) }
 {
-    let mut judge = judge_of(alloc, part)?;
+    let mut judge = judge_of(alloc, part, inferences)?;
     match verdict(alloc, part, &mut judge, placement)? {
         Verdict::Forbids(found) => inferences_in(found.cycles),
         Verdict::Allowed(_) => Err(Fault::NodeLimit),
@@ -263,13 +263,14 @@ pub fn refutations(
     alloc: Global,
     parts: &[Part],
     placement: &Placement,
+    inferences: usize,
 ) -> Result<Vec<List<Inference>>, Fault>
     requires { All IsPart parts.now }
     ensures { IfErr result (λ f. f ≢ Memory → IsSolveFault parts.now f) }
 {
     let mut cycles = Vec::new(alloc);
     for part in parts {
-        cycles.push(refutation(alloc, part, placement)?)?;
+        cycles.push(refutation(alloc, part, placement, inferences)?)?;
     }
     Ok(cycles)
 }

@@ -21,12 +21,13 @@ use std::marker::Model;
 use std::mem;
 use std::sync::Arc;
 
-/// A test and its judge, who comes with the first question; the fences that it is asked about, and what was said of
-/// them. Contracts see what is asked.
+/// A test and its judge, who comes with the first question, and how many inferences each of its hunts may make; the
+/// fences that it is asked about, and what was said of them. Contracts see what is asked.
 #[derive(Drop)]
 pub(crate) struct Seat {
     number: usize,
     test: Arc<Test>,
+    inferences: usize,
     judge: Option<Judge>,
     fences: Placement,
     said: Result<Option<Witness>, Fault>,
@@ -51,14 +52,14 @@ impl Model for Seat {
 }
 
 /// A judge of the test.
-fn judge_of(alloc: Global, test: &Arc<Test>) -> Result<Judge, Fault>
+fn judge_of(alloc: Global, test: &Arc<Test>, inferences: usize) -> Result<Judge, Fault>
     requires bounded { IsBounded (arc_value test.now) }
     requires starts { All IsStart (arc_value test.now).starts }
     ensures ok { IfOk result (λ judge. judge ≡ arc_value test.now) }
     ensures err { IfErr result (λ f. f ≢ Memory → IsCandidateFault (arc_value test.now) f) }
 {
     let test = Arc::try_clone(test)?;
-    let problem = Problem::shared(alloc, test)?;
+    let problem = Problem::shared(alloc, test, inferences)?;
     Ok(Judge::new(alloc, problem))
 }
 
@@ -76,7 +77,7 @@ fn said_by(verdict: Result<Verdict, Fault>) -> Result<Option<Witness>, Fault>
 
 impl Seat {
     /// A seat of the test of this number, at which nothing was asked yet.
-    fn new(alloc: Global, number: usize, part: &Part) -> Result<Seat, Fault>
+    fn new(alloc: Global, number: usize, part: &Part, inferences: usize) -> Result<Seat, Fault>
         requires { IsPart part.now }
         ensures number { IfOk result (λ seat. seat.number ≡ number) }
         ensures test { IfOk result (λ seat. seat.test ≡ part.now.test) }
@@ -87,6 +88,7 @@ impl Seat {
         Ok(Seat {
             number,
             test,
+            inferences,
             judge: None,
             fences,
             said: Err(Fault::Memory),
@@ -115,6 +117,7 @@ impl Seat {
         let Seat {
             number,
             test,
+            inferences,
             judge,
             ..
         } = self;
@@ -122,6 +125,7 @@ impl Seat {
         Ok(Seat {
             number,
             test,
+            inferences,
             judge,
             fences,
             said: Err(Fault::Memory),
@@ -136,7 +140,7 @@ impl Seat {
     {
         match self.judge.take() {
             Some(judge) => Ok(judge),
-            None => judge_of(alloc, &self.test),
+            None => judge_of(alloc, &self.test, self.inferences),
         }
     }
 
@@ -176,6 +180,7 @@ fn add_seat(
     parts: &[Part],
     number: usize,
     seats: &mut Vec<Seat>,
+    inferences: usize,
 ) -> Result<(), Fault>
     requires parts { All IsPart parts.now }
     requires low { number < length parts.now }
@@ -183,13 +188,18 @@ fn add_seat(
     ensures ok { OnOk result (All (IsOfTest parts.now) seats.new.items) }
     ensures err { IsOkUnless result Memory }
 {
-    seats.push(Seat::new(alloc, number, &parts[number])?)?;
+    seats.push(Seat::new(alloc, number, &parts[number], inferences)?)?;
     Ok(())
 }
 
 /// A seat for each test. They are dealt to so many workers by turns, so that each gets some of tests that are alike,
 /// which mostly stand side by side.
-pub(crate) fn seats_of(alloc: Global, parts: &[Part], workers: usize) -> Result<Vec<Seat>, Fault>
+pub(crate) fn seats_of(
+    alloc: Global,
+    parts: &[Part],
+    workers: usize,
+    inferences: usize,
+) -> Result<Vec<Seat>, Fault>
     requires parts { All IsPart parts.now }
     requires some { 0 < workers }
     ensures ok { IfOk result (λ seats. All (IsOfTest parts.now) seats.items) }
@@ -199,7 +209,7 @@ pub(crate) fn seats_of(alloc: Global, parts: &[Part], workers: usize) -> Result<
     for worker in 0..workers {
         for number in 0..parts.len() {
             if number % workers == worker {
-                add_seat(alloc, parts, number, &mut seats)?;
+                add_seat(alloc, parts, number, &mut seats, inferences)?;
             }
         }
     }

@@ -10,6 +10,7 @@ ghost use Rattle.fs_sites.specs.Answers.{IsAnswer, IsShownIn, IsSolveFault, IsPa
 ghost use Rattle.fs_sites.specs.inner.Bars.{AreBars, IsShownBySome};
 ghost use Rattle.fs_sites_search.specs.Seats.{IsAskedIn, IsOfTest};
 
+use crate::limits::Limits;
 use crate::rounds::{bar_by, fenced, solve_broken};
 use crate::seats::{Seat, all_allowing, first_allowing, seats_of};
 use fs_board_offers::Offers;
@@ -19,14 +20,6 @@ use fs_sites::{Answer, Part, Question, first_breaking};
 use std::alloc::{AllocError, Global};
 use std::thread;
 use std::thread::Threads;
-
-/// So many workers, rounds, and steps of a plan there may be.
-#[derive(Clone, Copy)]
-pub struct Limits {
-    pub workers: u8,
-    pub rounds: usize,
-    pub steps: usize,
-}
 
 /// The seats, asked of these fences of the sites, where nothing was said yet.
 fn fenced_seats(
@@ -198,7 +191,7 @@ fn solve_together<R: Threads + Sync>(
     let parts = question.parts.as_slice();
     let offers = &question.offers;
     let workers = usize::from(limits.workers);
-    let seats = seats_of(alloc, parts, workers)?;
+    let seats = seats_of(alloc, parts, workers, limits.inferences)?;
     let (seats, found) = allowing_top(rt, alloc, parts, offers, seats, workers)?;
     if let Some((part, witness)) = found {
         return Ok((Answer::None { part, witness }, Vec::new(alloc)));
@@ -239,7 +232,7 @@ pub fn solve_broken_by<R: Threads + Sync>(
     ensures err { IfErr result (λ f. f ≢ Memory → IsSolveFault question.now.parts f) }
 {
     if limits.workers < 2 {
-        return solve_broken(alloc, question, limits.rounds, limits.steps);
+        return solve_broken(alloc, question, limits);
     }
     solve_together(rt, alloc, question, limits)
 }

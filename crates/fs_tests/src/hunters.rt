@@ -3,7 +3,7 @@
 use crate::workers::answered;
 use crate::wrong::add_wrong;
 use fs_board::Board;
-use fs_board_search::{Unwatched, problem_of, search_alone};
+use fs_board_search::{USUAL_INFERENCES, Unwatched, problem_of, search_alone};
 use fs_kinds::Fault;
 use fs_pool_workers::{Hunters, Open};
 use fs_tests_shared::{PRICES, SB, question_of};
@@ -42,7 +42,7 @@ fn shared<R: Threads + Wait + Sync>(
     workers: u8,
 ) -> Result<(u64, u64), Fault> {
     let question = question_of(alloc, text, PRICES)?;
-    let problem = problem_of(alloc, &question)?;
+    let problem = problem_of(alloc, &question, USUAL_INFERENCES)?;
     let mut board = Board::new(alloc, question, 1_000_000)?;
     let hunters = Hunters::new(rt, workers);
     search_alone(

@@ -1,6 +1,6 @@
 //! Tests that are answered only where hunts and plans go on for long, and a short one beside them.
 
-use fs_board_search::{Unwatched, solve};
+use fs_board_search::{Limits, USUAL_INFERENCES, Unwatched, solve};
 use fs_kinds::Fault;
 use fs_tests_shared::{PRICES, SB, question_of};
 use std::alloc::Global;
@@ -66,7 +66,11 @@ exists (a=4 /\\ 0:x9=0 /\\ 1:x9=0 /\\ 2:x9=0 /\\ 3:x9=0 /\\ 4:x9=0)
 /// How many nodes the search has made in the end.
 fn nodes(alloc: Global, text: &str) -> Result<usize, Fault> {
     let question = question_of(alloc, text, PRICES)?;
-    let solved = solve(alloc, question, 1_000_000, &mut Unwatched)?;
+    let limits = Limits {
+        nodes: 1_000_000,
+        inferences: USUAL_INFERENCES,
+    };
+    let solved = solve(alloc, question, limits, &mut Unwatched)?;
     match solved.board() {
         Some(board) => Ok(board.len()),
         None => Ok(0),

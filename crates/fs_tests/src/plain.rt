@@ -11,6 +11,7 @@ use crate::places::places_of;
 use fs_cand::Traces;
 use fs_hart::{Operation, Steps, Trace, operations};
 use fs_instr::Reg;
+use fs_judge::USUAL_INFERENCES;
 use fs_judge_outcomes::{Place, State, states};
 use fs_kinds::{Fault, List, Placement};
 use fs_litmus::{Test, read_test};
@@ -195,7 +196,7 @@ fn marked(alloc: Global, test: &Arc<Test>, placement: &Placement) -> Result<Mark
     requires placement { slots_of placement.now ≡ slots (arc_value test.now) }
 {
     let places = places_of(alloc, test)?;
-    let found = states(alloc, test, placement, &places)?;
+    let found = states(alloc, test, placement, &places, USUAL_INFERENCES)?;
     let mut marks = Marks::new(alloc, found)?;
     mark_all(alloc, test, placement, &places, &mut marks)?;
     Ok(marks)

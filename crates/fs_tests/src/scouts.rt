@@ -5,7 +5,7 @@ ghost use Rattle.fs_board_offers.specs.Offers.{slots};
 ghost use Rattle.fs_board_offers.specs.Parts.{slots_in_part};
 
 use fs_board::{Board, Event, Reply};
-use fs_board_search::{Problem, Scout, Taken, Way};
+use fs_board_search::{Problem, Scout, Taken, USUAL_INFERENCES, Way};
 use fs_kinds::Fault;
 use fs_tests_shared::{CO_RR, PRICES, question_of};
 use std::alloc::{AllocError, Global};
@@ -32,7 +32,7 @@ fn root(alloc: Global, board: &mut Board) -> Result<Option<Taken>, AllocError>
 fn scout_after(alloc: Global, verdicts: usize) -> Result<Scout, Fault> {
     let question = question_of(alloc, CO_RR, PRICES)?;
     let mut board = Board::new(alloc, Arc::try_clone(&question)?, 1)?;
-    let problem = Problem::shared(alloc, Arc::try_clone(question.test())?)?;
+    let problem = Problem::shared(alloc, Arc::try_clone(question.test())?, USUAL_INFERENCES)?;
     let mut scout = Scout::new(alloc, question, problem);
     let Some(taken) = root(alloc, &mut board)? else {
         return Ok(scout);

@@ -9,6 +9,7 @@ ghost use Rattle.fs_model.specs.Test.{IsTest};
 use crate::places::places_of;
 use crate::states_texts::{ADDED, ASTRAY, BRANCH, LAST, TRUE, TWICE};
 use crate::wrong::add_wrong;
+use fs_judge::USUAL_INFERENCES;
 use fs_judge_outcomes::{State, states};
 use fs_kinds::{Fault, Placement};
 use fs_litmus::{Test, read_test};
@@ -34,7 +35,7 @@ fn states_text(alloc: Global, test: &Arc<Test>, placement: &Placement) -> Result
     requires placement { slots_of placement.now ≡ slots (arc_value test.now) }
 {
     let places = places_of(alloc, test)?;
-    let found = states(alloc, test, placement, &places)?;
+    let found = states(alloc, test, placement, &places, USUAL_INFERENCES)?;
     Ok(lines_of(alloc, found.as_slice())?)
 }
 

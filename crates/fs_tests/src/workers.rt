@@ -1,9 +1,12 @@
 //! Answers of any number of workers.
 
+ghost use Rattle.std.specs.Prelude.{◌≡◌};
+
 use crate::wrong::add_wrong;
 use fs_board::{Event, LogEntry, Reply};
+use fs_board_search::USUAL_INFERENCES;
 use fs_kinds::Fault;
-use fs_pool_workers::{Answer, Gate, Open, Solved, solve};
+use fs_pool_workers::{Answer, Gate, Limits, Open, Solved, solve};
 use fs_tests_shared::{LB, MP11, MPA, PRICES, SB, SBF, SBX, question_of, told, write_fences};
 use std::alloc::{AllocError, Global};
 use std::sync::Wait;
@@ -110,6 +113,16 @@ fn line_of(alloc: Global, solved: &Solved) -> Result<String, AllocError> {
     Ok(text)
 }
 
+/// So many nodes, and the usual hunts.
+fn within(nodes: usize) -> Limits
+    ensures { result.nodes ≡ nodes }
+{
+    Limits {
+        nodes,
+        inferences: USUAL_INFERENCES,
+    }
+}
+
 /// The answer that so many workers find within so many nodes. The fault is F16 where these numbers are out of range.
 fn found<R: Threads + Wait + Sync, G: Gate + Sync>(
     rt: &R,
@@ -123,7 +136,7 @@ fn found<R: Threads + Wait + Sync, G: Gate + Sync>(
         return Err(Fault::NodeLimit);
     }
     let question = question_of(alloc, test, PRICES)?;
-    solve(rt, alloc, question, workers, nodes, gate)
+    solve(rt, alloc, question, workers, within(nodes), gate)
 }
 
 /// The answer as a line, or the line of the fault.
@@ -243,7 +256,7 @@ fn taken(alloc: Global, log: &[LogEntry]) -> Result<String, AllocError> {
 /// The nodes that one worker took, where any worker might have been given them.
 fn taken_by_one<R: Threads + Wait + Sync>(rt: &R, alloc: Global) -> Result<String, Fault> {
     let question = question_of(alloc, SB, PRICES)?;
-    let solved = solve(rt, alloc, question, 1, 1_000_000, &Open)?;
+    let solved = solve(rt, alloc, question, 1, within(1_000_000), &Open)?;
     match solved.board() {
         Some(board) => Ok(taken(alloc, board.log())?),
         None => Ok(String::new(alloc)),
@@ -305,7 +318,7 @@ fn add_answers<R: Threads + Wait + Sync>(
 /// log shows of who searched for it; or the line of the fault.
 fn answered_by_four<R: Threads + Wait + Sync>(rt: &R, alloc: Global) -> Result<String, Fault> {
     let question = question_of(alloc, READERS, EQUAL)?;
-    let solved = solve(rt, alloc, question, 4, 1_000_000, &Open)?;
+    let solved = solve(rt, alloc, question, 4, within(1_000_000), &Open)?;
     let mut text = line_of(alloc, &solved)?;
     if let Some(board) = solved.board() {
         write_doers(board.log(), &mut text)?;

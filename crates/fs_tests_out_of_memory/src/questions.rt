@@ -10,7 +10,7 @@ ghost use Rattle.fs_board.specs.Growth.{AreWitnesses};
 
 use fs_board_offers::Question;
 use fs_cert_evidence::{Forbidden, Witness};
-use fs_judge::{Problem, Verdict};
+use fs_judge::{Problem, USUAL_INFERENCES, Verdict};
 use fs_kinds::{Fault, List, Slot};
 use fs_tests_shared::verdict_on;
 use std::alloc::Global;
@@ -38,7 +38,7 @@ pub(crate) fn problem_of(alloc: Global, question: &Question) -> Result<Problem, 
     requires { IsTest question.now.test }
     ensures { IfOk result (λ problem. problem ≡ question.now.test) }
 {
-    Problem::new(alloc, Arc::try_clone(question.test())?)
+    Problem::new(alloc, Arc::try_clone(question.test())?, USUAL_INFERENCES)
 }
 
 /// The witness of the verdict on the placement that the words name. `BadFence` where it forbids the outcome.

@@ -5,7 +5,7 @@ ghost use Rattle.fs_model.specs.Test.{IsBounded, IsTest};
 
 use crate::printing::say_refused;
 use fs_cert_evidence::Witness;
-use fs_judge::{Judge, Problem, Verdict};
+use fs_judge::{Judge, Problem, USUAL_INFERENCES, Verdict};
 use fs_kinds::Fault;
 use fs_model::Test;
 use fs_tests_shared::{PRICES, SB, count_of, placement_of, question_of, verdict_on};
@@ -17,7 +17,7 @@ fn problem_of(alloc: Global, test: &Arc<Test>) -> Result<Arc<Problem>, Fault>
     requires { IsTest (arc_value test.now) }
     ensures { IfOk result (λ problem. arc_value problem ≡ arc_value test.now) }
 {
-    Problem::shared(alloc, Arc::try_clone(test)?)
+    Problem::shared(alloc, Arc::try_clone(test)?, USUAL_INFERENCES)
 }
 
 /// What a judge sees at a quick look at the placement that the words name.

@@ -9,7 +9,7 @@ ghost use Rattle.fs_judge.specs.Verdicts.{IsVerdict};
 
 use crate::questions::placement_of;
 use fs_cert_evidence::Cycles;
-use fs_judge::{Problem, Verdict};
+use fs_judge::{Problem, USUAL_INFERENCES, Verdict};
 use fs_kinds::Fault;
 use fs_litmus::read_test;
 use std::alloc::Global;
@@ -20,7 +20,7 @@ pub fn problem_of(alloc: Global, text: &str) -> Result<Arc<Problem>, Fault>
     ensures { IfOk result (λ problem. IsBounded (arc_value problem)) }
 {
     let test = Arc::new(alloc, read_test(alloc, text.as_bytes())?)?;
-    Problem::shared(alloc, test)
+    Problem::shared(alloc, test, USUAL_INFERENCES)
 }
 
 /// The verdict on the placement that the words name.

@@ -32,4 +32,4 @@ unreachable-requires c = absurd (never_faulty _ _ _ _ c.in-Faulty.is c.requires.
 
 pub returns-in-Vacuous-clause-fault : goal.returns-in-Vacuous-clause-fault
 returns-in-Vacuous-clause-fault c =
-    memory-audited c.args.bytes.now c.args.limit c.args.prices c.answer_vacuous.result c.answer_vacuous.ensures.err
+    memory-audited c.args.bytes.now c.args.limits.nodes c.args.prices c.answer_vacuous.result c.answer_vacuous.ensures.err

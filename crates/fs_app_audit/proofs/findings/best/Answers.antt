@@ -60,7 +60,7 @@ returns-in_err-solved-clause-err c =
     let of : Priced = c.args.question.now.value in
     let is = c.in_ok-asked.ensures.ok ∙ ap (λ (q : Priced). question_of q.test q.prices) c.deref.ensures in
     IfErr-handed c.from_residual-in_err-solved.result _ _ c.from_residual-in_err-solved.ensures.1
-    (λ other. priced-fault of.test of.prices _ c.args.limit c.in_err-solved.field-0.0 is (c.in_err-solved.ensures.err other))
+    (λ other. priced-fault of.test of.prices _ c.args.limits.nodes c.in_err-solved.field-0.0 is (c.in_err-solved.ensures.err other))
 
 pub kept_or_first-requires-clause-same : goal.kept_or_first-requires-clause-same
 kept_or_first-requires-clause-same c =

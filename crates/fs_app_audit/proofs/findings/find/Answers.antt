@@ -7,17 +7,17 @@ pub returns-in_err-table-clause-fault : goal.returns-in_err-table-clause-fault
 returns-in_err-table-clause-fault c =
     let said = c.in_err-table.ensures in
     IfErr-handed c.from_residual.result _ _ c.from_residual.ensures.1
-    (audit-prices c.args.purpose _ _ c.args.limit _ (IsPricesFault-read _ _ said.err said.bad said.no_top))
+    (audit-prices c.args.purpose _ _ c.args.limits.nodes _ (IsPricesFault-read _ _ said.err said.bad said.no_top))
 
 pub returns-in_err-own-clause-fault : goal.returns-in_err-own-clause-fault
 returns-in_err-own-clause-fault c =
     IfErr-handed c.from_residual-in_err-own.result _ _ c.from_residual-in_err-own.ensures.1
-    (audit-test c.args.purpose _ c.args.prices.now c.args.limit _ c.in_ok-table.ensures.ok _ c.in_err-own.ensures.err)
+    (audit-test c.args.purpose _ c.args.prices.now c.args.limits.nodes _ c.in_ok-table.ensures.ok _ c.in_err-own.ensures.err)
 
 pub returns-in_err-said-clause-fault : goal.returns-in_err-said-clause-fault
 returns-in_err-said-clause-fault c =
     IfErr-handed c.from_residual-in_err-said.result _ _ c.from_residual-in_err-said.ensures.1
-    (audit-written c.args.purpose _ c.args.prices.now c.args.limit _ c.in_ok-table.ensures.ok _ c.in_ok-own.ensures.ok _ c.in_err-said.ensures.err)
+    (audit-written c.args.purpose _ c.args.prices.now c.args.limits.nodes _ c.in_ok-table.ensures.ok _ c.in_ok-own.ensures.ok _ c.in_err-said.ensures.err)
 
 pub returns-clause-found : goal.returns-clause-found
 returns-clause-found c =

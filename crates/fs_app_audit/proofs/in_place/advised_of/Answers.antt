@@ -25,5 +25,5 @@ returns-clause-ok c =
 
 pub returns-clause-err : goal.returns-clause-err
 returns-clause-err c =
-    subst (λ (q : Question). IfErr c.searched.result (λ f. f ≢ Memory → IsLimitFault q c.args.limit f)) c.in_ok-question.ensures
+    subst (λ (q : Question). IfErr c.searched.result (λ f. f ≢ Memory → IsLimitFault q c.args.limits.nodes f)) c.in_ok-question.ensures
     c.searched.ensures.err

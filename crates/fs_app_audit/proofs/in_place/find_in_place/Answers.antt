@@ -19,7 +19,7 @@ returns-in_err-advised-clause-fault c =
     (λ other. inr (
       empty,
       c.in_ok-empty.ensures.same _ c.requires.reads,
-      subst (λ (os : Offers). IsLimitFault (record { test = empty; offers = os }) c.args.limit c.in_err-advised.field-0.0) is (c.in_err-advised.ensures.err other),
+      subst (λ (os : Offers). IsLimitFault (record { test = empty; offers = os }) c.args.limits.nodes c.in_err-advised.field-0.0) is (c.in_err-advised.ensures.err other),
     ))
 
 pub advised_of-requires-clause-some : goal.advised_of-requires-clause-some

@@ -14,13 +14,13 @@ find_in_place-requires-clause-forbidden c = forbidden _ _ _ c.requires.tested.2
 pub returns-in_err-in_place-clause-fault : goal.returns-in_err-in_place-clause-fault
 returns-in_err-in_place-clause-fault c =
     IfErr-handed c.from_residual.result _ _ c.from_residual.ensures.1
-    (λ file priced. fault-in-place Write c.args.bytes.now file c.args.limit c.args.prices.now priced c.args.own.now c.requires.reads
+    (λ file priced. fault-in-place Write c.args.bytes.now file c.args.limits.nodes c.args.prices.now priced c.args.own.now c.requires.reads
     (Forbidden, c.requires.tested.0, c.requires.tested.1, c.requires.tested.2) c.in_err-in_place.field-0.0 c.in_err-in_place.ensures.fault)
 
 pub returns-in_err-text-clause-fault : goal.returns-in_err-text-clause-fault
 returns-in_err-text-clause-fault c =
     IfErr-handed c.from_residual-in_err-text.result _ _ c.from_residual-in_err-text.ensures.1
-    (λ file priced. of_anew (audit-memory Write _ file c.args.limit _ c.in_err-text.ensures.err))
+    (λ file priced. of_anew (audit-memory Write _ file c.args.limits.nodes _ c.in_err-text.ensures.err))
 
 pub returns-clause-answer : goal.returns-clause-answer
 returns-clause-answer c = λ file priced.

@@ -13,7 +13,7 @@ returns-in_err-found-clause-fault c =
 pub returns-in_err-text-clause-fault : goal.returns-in_err-text-clause-fault
 returns-in_err-text-clause-fault c =
     IfErr-handed c.from_residual-in_err-text.result _ _ c.from_residual-in_err-text.ensures.1
-    (λ file priced. of_anew (audit-memory Write _ file c.args.limit _ c.in_err-text.ensures.err))
+    (λ file priced. of_anew (audit-memory Write _ file c.args.limits.nodes _ c.in_err-text.ensures.err))
 
 pub returns-clause-answer : goal.returns-clause-answer
 returns-clause-answer c = λ file priced.

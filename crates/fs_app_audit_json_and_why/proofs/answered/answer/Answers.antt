@@ -15,7 +15,7 @@ use Rattle.fs_app_audit_json_and_why.proofs.answered.answer.Goals as goal
 pub returns-in_err-said-clause-fault : goal.returns-in_err-said-clause-fault
 returns-in_err-said-clause-fault c =
     IfErr-handed c.from_residual.result _ _ c.from_residual.ensures.1
-    (λ given priced. of_anew (audit-written Advise _ given c.args.limit c.args.prices priced _ c.requires.reads _ c.in_err-said.ensures.err))
+    (λ given priced. of_anew (audit-written Advise _ given c.args.limits.nodes c.args.prices priced _ c.requires.reads _ c.in_err-said.ensures.err))
 
 pub answer_in_place-requires-clause-tested : goal.answer_in_place-requires-clause-tested
 answer_in_place-requires-clause-tested c = (
@@ -51,4 +51,4 @@ unreachable-requires c = absurd (never_faulty _ _ _ _ c.in-Faulty.is c.in_ok-sai
 
 pub returns-in-Vacuous-clause-fault : goal.returns-in-Vacuous-clause-fault
 returns-in-Vacuous-clause-fault c =
-    IfErr-weaker c.answer_vacuous.result _ _ (λ f h given priced. h given priced c.args.limit) c.answer_vacuous.ensures.fault
+    IfErr-weaker c.answer_vacuous.result _ _ (λ f h given priced. h given priced c.args.limits.nodes) c.answer_vacuous.ensures.fault

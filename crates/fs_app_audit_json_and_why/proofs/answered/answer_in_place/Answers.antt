@@ -30,7 +30,7 @@ returns-in_err-in_place-clause-fault c =
     let tested : IsTested t =
     subst (λ (u : Test). IsTested u) (sym c.deref.ensures) (Forbidden, c.requires.tested.0, c.requires.tested.1, c.requires.tested.2) in
     IfErr-handed c.from_residual.result _ _ c.from_residual.ensures.1
-    (λ given priced. fault-in-place Advise bytes given c.args.limit c.args.prices priced t reads tested c.in_err-in_place.field-0.0 c.in_err-in_place.ensures.fault)
+    (λ given priced. fault-in-place Advise bytes given c.args.limits.nodes c.args.prices priced t reads tested c.in_err-in_place.field-0.0 c.in_err-in_place.ensures.fault)
 
 pub returns-in_err-found-clause-fault : goal.returns-in_err-found-clause-fault
 returns-in_err-found-clause-fault c =

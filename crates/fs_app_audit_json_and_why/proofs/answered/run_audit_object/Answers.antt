@@ -9,12 +9,12 @@ pub returns-in_err-table-clause-fault : goal.returns-in_err-table-clause-fault
 returns-in_err-table-clause-fault c =
     let said = c.in_err-table.ensures in
     IfErr-handed c.from_residual.result _ _ c.from_residual.ensures.1
-    (of_anew (audit-prices Advise _ _ c.args.limit _ (IsPricesFault-read _ _ said.err said.bad said.no_top)))
+    (of_anew (audit-prices Advise _ _ c.args.limits.nodes _ (IsPricesFault-read _ _ said.err said.bad said.no_top)))
 
 pub returns-in_err-own-clause-fault : goal.returns-in_err-own-clause-fault
 returns-in_err-own-clause-fault c =
     IfErr-handed c.from_residual-in_err-own.result _ _ c.from_residual-in_err-own.ensures.1
-    (of_anew (audit-test Advise _ c.args.prices.now c.args.limit _ c.in_ok-table.ensures.ok _ c.in_err-own.ensures.err))
+    (of_anew (audit-test Advise _ c.args.prices.now c.args.limits.nodes _ c.in_ok-table.ensures.ok _ c.in_err-own.ensures.err))
 
 pub returns-clause-answer : goal.returns-clause-answer
 returns-clause-answer c =

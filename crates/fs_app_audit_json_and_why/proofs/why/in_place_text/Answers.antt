@@ -14,7 +14,7 @@ find_in_place-requires-clause-forbidden c = forbidden _ _ _ c.requires.tested.2
 pub returns-in_err-found-clause-fault : goal.returns-in_err-found-clause-fault
 returns-in_err-found-clause-fault c =
     IfErr-handed c.from_residual.result _ _ c.from_residual.ensures.1
-    (λ file priced. of_audit (fault-in-place Advise c.args.page.bytes.now file c.args.limit c.args.prices.now priced c.args.page.test.now
+    (λ file priced. of_audit (fault-in-place Advise c.args.page.bytes.now file c.args.limits.nodes c.args.prices.now priced c.args.page.test.now
     c.requires.reads (Forbidden, c.requires.tested.0, c.requires.tested.1, c.requires.tested.2) c.in_err-found.field-0.0 c.in_err-found.ensures.fault))
 
 pub advised_text-requires-clause-advised : goal.advised_text-requires-clause-advised
@@ -46,6 +46,6 @@ returns-clause-fault c =
       cheapest = c.in_ok-found.ensures.cheapest;
     } in
     IfErr-weaker c.advised_text.result _ _
-    (λ fault met file priced. why-advised c.args.page.bytes.now file c.args.limit c.args.prices.now c.args.page.test.now
+    (λ fault met file priced. why-advised c.args.page.bytes.now file c.args.limits.nodes c.args.prices.now c.args.page.test.now
     c.in_ok-found.found.advised fault priced c.requires.reads are met)
     c.advised_text.ensures.err

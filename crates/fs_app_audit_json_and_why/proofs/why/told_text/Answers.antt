@@ -19,7 +19,7 @@ unreachable-requires c = absurd (never_faulty _ _ _ _ c.in-Faulty.is c.requires.
 
 pub returns-in-Allowed-clause-fault : goal.returns-in-Allowed-clause-fault
 returns-in-Allowed-clause-fault c =
-    why-memory-only c.args.page.bytes.now c.args.limit c.args.prices.now c.allowed_text.result c.allowed_text.ensures.err
+    why-memory-only c.args.page.bytes.now c.args.limits.nodes c.args.prices.now c.allowed_text.result c.allowed_text.ensures.err
 
 pub returns-in-Forbidden-clause-told : goal.returns-in-Forbidden-clause-told
 returns-in-Forbidden-clause-told c =

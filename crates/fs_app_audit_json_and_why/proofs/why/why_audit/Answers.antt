@@ -17,17 +17,17 @@ pub returns-in_err-table-clause-fault : goal.returns-in_err-table-clause-fault
 returns-in_err-table-clause-fault c =
     let said = c.in_err-table.ensures in
     IfErr-handed c.from_residual.result _ _ c.from_residual.ensures.1
-    (of_audit (of_anew (audit-prices Advise _ _ c.args.limit _ (IsPricesFault-read _ _ said.err said.bad said.no_top))))
+    (of_audit (of_anew (audit-prices Advise _ _ c.args.limits.nodes _ (IsPricesFault-read _ _ said.err said.bad said.no_top))))
 
 pub returns-in_err-own-clause-fault : goal.returns-in_err-own-clause-fault
 returns-in_err-own-clause-fault c =
     IfErr-handed c.from_residual-in_err-own.result _ _ c.from_residual-in_err-own.ensures.1
-    (of_audit (of_anew (audit-test Advise _ c.args.prices.now c.args.limit _ c.in_ok-table.ensures.ok _ c.in_err-own.ensures.err)))
+    (of_audit (of_anew (audit-test Advise _ c.args.prices.now c.args.limits.nodes _ c.in_ok-table.ensures.ok _ c.in_err-own.ensures.err)))
 
 pub returns-in_err-said-clause-fault : goal.returns-in_err-said-clause-fault
 returns-in_err-said-clause-fault c =
     IfErr-handed c.from_residual-in_err-said.result _ _ c.from_residual-in_err-said.ensures.1
-    (of_audit (of_anew (audit-written Advise _ c.args.prices.now c.args.limit _ c.in_ok-table.ensures.ok _ c.in_ok-own.ensures.ok _ c.in_err-said.ensures.err)))
+    (of_audit (of_anew (audit-written Advise _ c.args.prices.now c.args.limits.nodes _ c.in_ok-table.ensures.ok _ c.in_ok-own.ensures.ok _ c.in_err-said.ensures.err)))
 
 pub lines_of-requires : goal.lines_of-requires
 lines_of-requires c = (arc_value c.in_ok-own.own, c.in_ok-own.ensures.ok)
@@ -35,7 +35,7 @@ lines_of-requires c = (arc_value c.in_ok-own.own, c.in_ok-own.ensures.ok)
 pub returns-in_err-lines-clause-fault : goal.returns-in_err-lines-clause-fault
 returns-in_err-lines-clause-fault c =
     IfErr-handed c.from_residual-in_err-lines.result _ _ c.from_residual-in_err-lines.ensures.1
-    (why-memory c.args.test.now c.args.prices.now c.args.limit _ c.in_err-lines.ensures.err)
+    (why-memory c.args.test.now c.args.prices.now c.args.limits.nodes _ c.in_err-lines.ensures.err)
 
 pub returns-clause-told : goal.returns-clause-told
 returns-clause-told c =

@@ -21,9 +21,9 @@ returns-in_err-asked-clause-fault g c =
 pub returns-in_err-solved-clause-fault : goal.returns-in_err-solved-clause-fault
 returns-in_err-solved-clause-fault g c =
     IfErr-handed c.from_residual-in_err-solved.result _ _ c.from_residual-in_err-solved.ensures.1
-    (solve-search _ _ c.args.limit _ _ _ c.in_ok-question.ensures.asked c.in_ok-asked.ensures c.in_err-solved.ensures.err)
+    (solve-search _ _ c.args.limits.nodes _ _ _ c.in_ok-question.ensures.asked c.in_ok-asked.ensures c.in_err-solved.ensures.err)
 
 pub returns-clause-found : goal.returns-clause-found
 returns-clause-found g c =
-    found-asked _ _ _ _ c.args.limit _ c.in_ok-question.ensures.asked c.in_ok-asked.ensures c.in_ok-solved.ensures.clean
+    found-asked _ _ _ _ c.args.limits.nodes _ c.in_ok-question.ensures.asked c.in_ok-asked.ensures c.in_ok-solved.ensures.clean
     c.in_ok-solved.ensures.ok c.in_ok-solved.ensures.rests

@@ -35,20 +35,20 @@ conclude-requires-clause-clean g c = subst HasNoRunFault c.in_ok-problem.ensures
 pub returns-in_err-met-clause-err : goal.returns-in_err-met-clause-err
 returns-in_err-met-clause-err g c =
     handed c.from_residual-in_err-met.result _ _ c.from_residual-in_err-met.ensures.1
-    (λ other. same-fault _ c.args.question.value c.in_ok-board.board.board.limit c.args.limit _ c.in_ok-board.ensures.asked.question
+    (λ other. same-fault _ c.args.question.value c.in_ok-board.board.board.limit c.args.limits.nodes _ c.in_ok-board.ensures.asked.question
     c.in_ok-board.ensures.asked.limit (c.in_err-met.ensures.err other))
 
 pub returns-in_err-solved-clause-err : goal.returns-in_err-solved-clause-err
 returns-in_err-solved-clause-err g c =
     handed c.from_residual-in_err-solved.result _ _ c.from_residual-in_err-solved.ensures.1
-    (λ other. same-fault _ c.args.question.value c.begin.new.board.board.limit c.args.limit _
+    (λ other. same-fault _ c.args.question.value c.begin.new.board.board.limit c.args.limits.nodes _
     (c.in_ok-met.ensures.goes.question ∙ c.in_ok-board.ensures.asked.question)
     (c.in_ok-met.ensures.goes.limit ∙ c.in_ok-board.ensures.asked.limit) (c.in_err-solved.ensures.err other))
 
 pub returns-in_err-found-clause-err : goal.returns-in_err-found-clause-err
 returns-in_err-found-clause-err g c =
     handed c.from_residual-in_err-found.result _ _ c.from_residual-in_err-found.ensures.1
-    (λ other. same-fault _ c.args.question.value c.begin.new.board.board.limit c.args.limit _
+    (λ other. same-fault _ c.args.question.value c.begin.new.board.board.limit c.args.limits.nodes _
     (c.in_ok-met.ensures.goes.question ∙ c.in_ok-board.ensures.asked.question)
     (c.in_ok-met.ensures.goes.limit ∙ c.in_ok-board.ensures.asked.limit) (c.in_err-found.ensures.err other))
 
