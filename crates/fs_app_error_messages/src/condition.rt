@@ -1,6 +1,6 @@
 //! Which token of a test file a fault of its condition is of.
 
-ghost use Rattle.std.specs.Prelude.{◌≡◌, ◌<◌, ℕ, List, length, IfErr, IfOk, IfSome, IsNone, None};
+ghost use Rattle.std.specs.Prelude.{◌≡◌, ◌+◌, ◌<◌, ◌≤◌, ℕ, List, length, IfErr, IfOk, IfSome, IsNone, None};
 ghost use Rattle.fs_litmus_tokens.specs.Tokens.{Lined, views};
 ghost use Rattle.fs_litmus_tokens.specs.Sections.{Takes};
 ghost use Rattle.fs_litmus_syntax.specs.Reading.{IsEnd};
@@ -42,6 +42,15 @@ fn read_columns<'b, 'a>(
     Ok((form.columns, rest))
 }
 
+/// The number, among these tokens, of one that has this number in the rest.
+fn whole_number(tokens: &[Token<'_>], rest: &[Token<'_>], number: usize) -> usize
+    requires rest { length rest.now ≤ length tokens.now }
+    requires number { number < length rest.now }
+    ensures { result + length rest.now ≡ length tokens.now + number }
+{
+    tokens.len() - rest.len() + number
+}
+
 /// The number of the token with which the first atom of the condition begins that can't be true or false, since a hart
 /// or a register isn't there or a number is out of range. Linear in the tokens.
 pub(crate) fn atom_number(alloc: Global, tokens: &[Token<'_>]) -> Result<Option<usize>, AllocError>
@@ -54,7 +63,7 @@ pub(crate) fn atom_number(alloc: Global, tokens: &[Token<'_>]) -> Result<Option<
         Err(stop) => return nothing(stop),
     };
     match bad_atom(columns, rest) {
-        Some(before) => Ok(Some(tokens.len() - rest.len() + before)),
+        Some(before) => Ok(Some(whole_number(tokens, rest, before))),
         None => Ok(None),
     }
 }

@@ -37,6 +37,26 @@ fn push_within<T: Drop>(list: &mut Vec<T>, item: T)
     }
 }
 
+/// The pass of a worker with one receipt more, for which there is room.
+fn received<A: Asked>(
+    worker: u8,
+    mut receipts: Vec<Receipt<A>>,
+    number: usize,
+    event: Event,
+    reply: Reply,
+) -> Pass<A>
+    requires room { vec_len receipts < vec_capacity receipts }
+    requires tells { Tells A.question reply }
+    ensures { result
+        ≡ record {
+          worker = worker;
+          receipts = receipts.items ++ record { number = number; event = event_of event; reply = reply_of reply } ∷ [];
+        } }
+{
+    push_within(&mut receipts, Receipt::new(number, event, reply));
+    Pass::new(worker, receipts)
+}
+
 /// May the reply end another worker's wait? A node was closed or split.
 fn ends_waits(made: &Result<(usize, Reply), AllocError>) -> bool {
     match made {
@@ -63,6 +83,19 @@ impl<A: Asked> Model for Desk<A> {
 }
 
 impl<A: Asked> Desk<A> {
+    /// The desk of a board, for so many workers.
+    fn of(board: Board, workers: u8) -> Desk<A>
+        requires { IsAsked board A.question A.limit }
+        ensures { result ≡ record { workers = workers; since = length board.log } }
+    {
+        Desk {
+            workers,
+            since: board.log().len(),
+            shared: Mutex::new(Shared::new(board)),
+            changed: Condvar::new(),
+        }
+    }
+
     /// The desk of a board, on which something may be done already, and a pass for each worker, from 0 on. There may be
     /// 16 workers. For nodes that are held already nobody waits. The error is F19.
     pub fn new(alloc: Global, board: Board, workers: u8) -> Result<(Desk<A>, Vec<Pass<A>>), Fault>
@@ -77,13 +110,7 @@ impl<A: Asked> Desk<A> {
         for worker in 0..workers {
             passes.push(Pass::new(worker, Vec::new(alloc)))?;
         }
-        let desk = Desk {
-            workers,
-            since: board.log().len(),
-            shared: Mutex::new(Shared::new(board)),
-            changed: Condvar::new(),
-        };
-        Ok((desk, passes))
+        Ok((Desk::of(board, workers), passes))
     }
 
     /// Makes the event under the lock: the number that it has among the desk's, and the reply.
@@ -130,10 +157,7 @@ impl<A: Asked> Desk<A> {
             return Err((Pass::new(worker, receipts), Fault::Memory));
         }
         match self.answered(rt, alloc, worker, &event) {
-            Ok((number, reply)) => {
-                push_within(&mut receipts, Receipt::new(number, event, reply));
-                Ok(Pass::new(worker, receipts))
-            }
+            Ok((number, reply)) => Ok(received(worker, receipts, number, event, reply)),
             Err(_) => Err((Pass::new(worker, receipts), Fault::Memory)),
         }
     }

@@ -66,8 +66,18 @@ impl<A: Asked> Shared<A> {
         board
     }
 
-    /// Makes an event: the number that it has in the log, and the reply. An error changes nothing.
+    /// Asks the board. An error changes nothing.
     #[tactic(auto, using(crate::proofs::Telling::tells_asked, crate::proofs::Telling::made_asked, crate::proofs::Telling::still_asked))]
+    fn ask(&mut self, alloc: Global, worker: u8, event: &Event) -> Result<Reply, AllocError>
+        requires { IsMade A.question event.now }
+        ensures made { IfOk result (λ r. Answers self.old self.new worker (event_of event.now) (reply_of r)) }
+        ensures tells { IfOk result (Tells A.question) }
+        ensures unchanged { OnErr result (self.new ≡ self.old) }
+    {
+        self.board.ask(alloc, worker, event)
+    }
+
+    /// Makes an event: the number that it has in the log, and the reply. An error changes nothing.
     pub(crate) fn call(
         &mut self,
         alloc: Global,
@@ -82,7 +92,7 @@ impl<A: Asked> Shared<A> {
     {
         let holder = self.holder_before(event);
         let number = self.board.log().len();
-        let reply = self.board.ask(alloc, worker, event)?;
+        let reply = self.ask(alloc, worker, event)?;
         self.count(worker, holder, &reply);
         Ok((number, reply))
     }
