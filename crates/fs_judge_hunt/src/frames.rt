@@ -485,9 +485,18 @@ impl Search {
         let Some(branching) = self.tree.branching(self.path[depth].node) else {
             return false;
         };
-        if !matches!(branching.decision, Decision::Order(_, _)) {
-            return false;
-        }
+        matches!(branching.decision, Decision::Order(_, _))
+            && self.is_against(depth, branching, part, placed)
+    }
+
+    /// The same of one that an order decides.
+    fn is_against(
+        &self,
+        depth: usize,
+        branching: &Branching,
+        part: usize,
+        placed: &SlotPairs,
+    ) -> bool {
         let mut known = self.known(depth, placed);
         branching.add_held(&mut known, placed);
         match branching.known_part(&known) {
