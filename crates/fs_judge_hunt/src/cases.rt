@@ -132,62 +132,52 @@ impl Splitter<'_> {
         Ok(parted)
     }
 
-    /// Adds that region.
-    fn push_parts(
-        self,
-        left: &mut Vec<Box<Region>>,
-        region: &Region,
-        number: usize,
-        parts: &[Wanted],
-    ) -> Result<(), AllocError> {
-        let parted = self.with_parts(region, number, parts)?;
-        left.push(parted)?;
-        Ok(())
-    }
-
-    /// Adds the regions of the ways in which the wanted condition of this number gets its truth value.
-    pub(crate) fn push_cases(
-        self,
-        left: &mut Vec<Box<Region>>,
-        region: &Region,
-        number: usize,
-    ) -> Result<(), AllocError> {
-        match region.wanted.get(number) {
-            Some(wanted) => self.push_ways(left, region, number, *wanted),
-            None => Ok(()),
+    /// What the wanted condition of this number says of its parts.
+    fn wanted_part(self, region: &Region, number: usize) -> Option<(Wanted, Part)> {
+        let wanted: &Wanted = region.wanted.get(number)?;
+        if wanted.node < self.field.nodes.len() {
+            Some((*wanted, self.field.nodes[wanted.node].part))
+        } else {
+            None
         }
     }
 
-    /// Adds these.
-    fn push_ways(
+    /// In how many ways the wanted condition of this number gets its truth value.
+    pub(crate) fn ways(self, region: &Region, number: usize) -> usize {
+        match self.wanted_part(region, number) {
+            Some((wanted, part)) => match part {
+                Part::Deny => 1,
+                Part::Both | Part::Either => if is_at_once(part, wanted.truth) { 1 } else { 2 },
+                _ => 0,
+            },
+            None => 0,
+        }
+    }
+
+    /// The region in which it gets it in this way.
+    pub(crate) fn case(
         self,
-        left: &mut Vec<Box<Region>>,
         region: &Region,
         number: usize,
-        wanted: Wanted,
-    ) -> Result<(), AllocError> {
+        way: usize,
+    ) -> Result<Option<Box<Region>>, AllocError> {
+        let Some((wanted, part)) = self.wanted_part(region, number) else {
+            return Ok(None);
+        };
         let Wanted { node: whole, truth } = wanted;
-        if whole >= self.field.nodes.len() {
-            return Ok(());
-        }
-        let part = self.field.nodes[whole].part;
         let one = left_of(whole);
         let other = right_of(self.field.nodes, whole);
-        match part {
-            Part::Deny => self.push_parts(left, region, number, &[to_be(one, !truth)]),
+        let parted = match part {
+            Part::Deny => self.with_parts(region, number, &[to_be(one, !truth)])?,
             Part::Both | Part::Either if is_at_once(part, truth) => {
-                self.push_parts(
-                    left,
-                    region,
-                    number,
-                    &[to_be(one, truth), to_be(other, truth)],
-                )
+                self.with_parts(region, number, &[to_be(one, truth), to_be(other, truth)])?
             }
             Part::Both | Part::Either => {
-                self.push_parts(left, region, number, &[to_be(one, truth)])?;
-                self.push_parts(left, region, number, &[to_be(other, truth)])
+                let half = if way == 0 { one } else { other };
+                self.with_parts(region, number, &[to_be(half, truth)])?
             }
-            _ => Ok(()),
-        }
+            _ => return Ok(None),
+        };
+        Ok(Some(parted))
     }
 }

@@ -6,6 +6,7 @@ use crate::endings::Outlook;
 use crate::facts::Facts;
 use crate::learned::Learned;
 use crate::names::{Relation, bit, has};
+use crate::portions::Portion;
 use crate::region::{Field, Region};
 use crate::saturate::{Looked, saturate};
 use crate::splits::{Decision, Splitter};
@@ -16,11 +17,19 @@ use std::sync::Arc;
 
 /// A region that was looked at.
 #[derive(Drop)]
-pub(crate) enum Child {
+pub(crate) enum Seen {
     /// It ends so.
     Ended(Arc<Dead>, Box<Region>),
     /// It is open, and this followed in it.
     Open(Box<Region>, Vec<Step>),
+}
+
+/// A region of a split.
+#[derive(Drop)]
+pub(crate) enum Child {
+    /// It ends so, as a look on the way has shown; it isn't made.
+    Known(Arc<Dead>, Portion),
+    Seen(Seen),
 }
 
 /// A split with what it makes of a region, of which so many are left open.
@@ -50,7 +59,7 @@ pub(crate) fn look(
     alloc: Global,
     field: Field<'_>,
     region: Box<Region>,
-) -> Result<Child, AllocError> {
+) -> Result<Seen, AllocError> {
     let Looked {
         region,
         steps,
@@ -59,16 +68,16 @@ pub(crate) fn look(
     match ending {
         Some(ending) => {
             let dead = Arc::new(alloc, Dead::new(alloc, steps, ending)?)?;
-            Ok(Child::Ended(dead, region))
+            Ok(Seen::Ended(dead, region))
         }
-        None => Ok(Child::Open(region, steps)),
+        None => Ok(Seen::Open(region, steps)),
     }
 }
 
 impl Split {
-    /// Adds the region, which was looked at.
+    /// Adds the region.
     fn add(&mut self, child: Child) -> Result<(), AllocError> {
-        if let Child::Open(_, _) = &child {
+        if let Child::Seen(Seen::Open(_, _)) = &child {
             self.live = self.live.saturating_add(1);
         }
         self.children.push(child)?;
@@ -99,24 +108,28 @@ impl Chooser<'_> {
         }
     }
 
-    /// Puts the region among the split's children, looked at where no look on the way has shown that it ends. Where so
-    /// many are open, it is only counted.
+    /// Puts the portion of the region among the split's children, made and looked at where no look on the way has shown
+    /// that it ends. Where so many are open, it is only counted.
     fn add_child(
         &self,
         trail: &mut Trail,
         split: &mut Split,
-        region: Box<Region>,
+        portion: Portion,
         most: usize,
     ) -> Result<(), AllocError> {
-        let branch = self.splitter().branch(split.decision, &region);
-        if let Some(dead) = dead_at(trail, branch, &region)? {
-            return split.add(Child::Ended(dead, region));
+        let branch = portion.branch(self.region);
+        if let Some(dead) = dead_at(trail, branch, self.region)? {
+            return split.add(Child::Known(dead, portion));
         }
         if split.live >= most {
             split.live = split.live.saturating_add(1);
             return Ok(());
         }
-        split.add(self.look_at(trail, branch, region)?)
+        if let Some(region) = self.splitter().make(self.region, portion)? {
+            let seen = self.look_at(trail, branch, region)?;
+            split.add(Child::Seen(seen))?;
+        }
+        Ok(())
     }
 
     /// The same for each of these.
@@ -124,11 +137,11 @@ impl Chooser<'_> {
         &self,
         trail: &mut Trail,
         split: &mut Split,
-        regions: Vec<Box<Region>>,
+        portions: &[Portion],
         most: usize,
     ) -> Result<(), AllocError> {
-        for region in regions {
-            self.add_child(trail, split, region, most)?;
+        for portion in portions {
+            self.add_child(trail, split, *portion, most)?;
         }
         Ok(())
     }
@@ -139,15 +152,15 @@ impl Chooser<'_> {
         trail: &mut Trail,
         branch: Option<Branch>,
         region: Box<Region>,
-    ) -> Result<Child, AllocError> {
+    ) -> Result<Seen, AllocError> {
         trail.looks = trail.looks.saturating_add(1);
-        let child = look(self.alloc, self.field, region)?;
-        if let Child::Ended(dead, _) = &child {
+        let seen = look(self.alloc, self.field, region)?;
+        if let Seen::Ended(dead, _) = &seen {
             if let Some(branch) = branch {
                 trail.add(branch, dead)?;
             }
         }
-        Ok(child)
+        Ok(seen)
     }
 
     /// Looks at what the decision makes of the region; nothing where that is the region itself, or so many are open.
@@ -157,8 +170,8 @@ impl Chooser<'_> {
         decision: Decision,
         most: usize,
     ) -> Result<Option<Split>, AllocError> {
-        let regions = self.splitter().children(self.region, self.facts, decision)?;
-        if is_vain(self.region, decision, &regions) {
+        let portions = self.splitter().portions(self.region, decision, usize::MAX)?;
+        if self.splitter().is_vain(self.region, &portions)? {
             return Ok(None);
         }
         let mut split = Split {
@@ -167,7 +180,7 @@ impl Chooser<'_> {
             used: self.used(decision),
             live: 0,
         };
-        self.add_children(trail, &mut split, regions, most)?;
+        self.add_children(trail, &mut split, &portions, most)?;
         trail.set_open(decision, split.live);
         Ok(if split.live < most { Some(split) } else { None })
     }
@@ -252,14 +265,5 @@ impl Chooser<'_> {
             Some(order) => self.try_split(trail, order, usize::MAX),
             None => Ok(None),
         }
-    }
-}
-
-/// Is the one region that a split makes the region itself?
-fn is_vain(region: &Region, decision: Decision, made: &[Box<Region>]) -> bool {
-    match (decision, made) {
-        (Decision::Cases(_), _) => false,
-        (_, [one]) => one.is_like(region),
-        _ => false,
     }
 }

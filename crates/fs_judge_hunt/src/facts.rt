@@ -67,7 +67,6 @@ impl Facts {
             hart = hart.saturating_add(1);
         }
         for name in 0..field.count {
-            self.add_stored(name);
             self.add_read(field, region, name);
         }
     }
@@ -89,6 +88,7 @@ impl Facts {
     fn add_common(&mut self, region: &Region, name: u8, common: &Common) {
         set_at(&mut self.load_at, name, common.load_at);
         set_at(&mut self.store_at, name, common.store_at);
+        self.add_stored(name, common.store_at);
         self.edges.add_all(name, common.ordered);
         self.pairs.add_all(name, common.pairs);
         if common.same != 0 {
@@ -131,9 +131,10 @@ impl Facts {
         }
     }
 
-    fn add_stored(&mut self, name: u8) {
-        let location = usize::from(self.store_at(name));
-        if location < MOST_LOCATIONS {
+    /// Where it stores in each run.
+    fn add_stored(&mut self, name: u8, location: u8) {
+        let location = usize::from(location);
+        if location < MOST_LOCATIONS && usize::from(name) < MOST_NAMES {
             self.stored[location] |= bit(name);
         }
     }

@@ -106,7 +106,7 @@ impl Narrowing<'_> {
             alloc: self.alloc,
             field: self.field,
         };
-        splitter.parts(&self.region, decision)
+        splitter.regions(&self.region, decision)
     }
 
     /// The least choice at each name.

@@ -1,12 +1,13 @@
 //! The search: regions are split until each has ended, or one has nothing left to decide. What earlier searches have
 //! split isn't split anew, and what ended a region isn't looked for where it still holds.
 
-use crate::choose::{Child, Chooser, Split, look};
+use crate::choose::{Child, Chooser, Seen, Split, look};
 use crate::clash::{Clash, Step};
 use crate::facts::Facts;
 use crate::learned::Learned;
 use crate::names::Relation;
 use crate::needs::{Need, SlotPairs};
+use crate::portions::Portion;
 use crate::region::{Field, Region};
 use crate::splits::{Decision, Splitter};
 use crate::trail::{Dead, Mark, Trail};
@@ -55,22 +56,11 @@ pub(crate) struct Ground<'a> {
 }
 
 impl Ground<'_> {
-    /// The part of this number of those that the decision makes of the region, if it makes so many.
-    fn part(
-        self,
-        region: &Region,
-        decision: Decision,
-        part: usize,
-    ) -> Result<Option<Box<Region>>, AllocError> {
-        let splitter = Splitter {
+    fn splitter(&self) -> Splitter<'_> {
+        Splitter {
             alloc: self.alloc,
             field: self.field,
-        };
-        let mut parts = splitter.parts(region, decision)?;
-        if part >= parts.len() {
-            return Ok(None);
         }
-        Ok(Some(parts.swap_remove(part)))
     }
 }
 
@@ -245,7 +235,8 @@ impl Search {
             return Ok(None);
         };
         bare.before = self.known(depth.saturating_add(1), &SlotPairs::new());
-        ground.part(&bare, branching.decision, frame.part)
+        let splitter = ground.splitter();
+        splitter.region(&bare, branching.decision, frame.part)
     }
 
     /// How many of the first so many nodes of the path are above the last one whose region is kept.
@@ -320,14 +311,14 @@ impl Search {
     ) -> Result<Option<(Box<Region>, Vec<Step>)>, AllocError> {
         self.trail.looks = self.trail.looks.saturating_add(1);
         match look(ground.alloc, ground.field, region)? {
-            Child::Ended(dead, region) => {
+            Seen::Ended(dead, region) => {
                 let leaf = self.leaf(ground, &region, dead)?;
                 if let Some(node) = self.tree.nodes.get_mut(node) {
                     node.add_leaf(leaf)?;
                 }
                 Ok(None)
             }
-            Child::Open(region, steps) => Ok(Some((region, steps))),
+            Seen::Open(region, steps) => Ok(Some((region, steps))),
         }
     }
 
@@ -362,30 +353,65 @@ impl Search {
         chooser.split(&mut self.trail)
     }
 
-    /// The node of a part into which the path goes at its end.
-    fn node_of(&mut self, ground: Ground<'_>, child: Child) -> Result<Node, AllocError> {
+    /// The portion of the region of the node, if that is kept.
+    fn portion_of(
+        &self,
+        ground: Ground<'_>,
+        node: usize,
+        portion: Portion,
+    ) -> Result<Option<Box<Region>>, AllocError> {
+        match self.tree.region(node) {
+            Some(region) => ground.splitter().make(region, portion),
+            None => Ok(None),
+        }
+    }
+
+    /// The node of a part of this node, into which the path goes at its end.
+    fn node_of(
+        &mut self,
+        ground: Ground<'_>,
+        node: usize,
+        child: Child,
+    ) -> Result<Node, AllocError> {
         match child {
-            Child::Ended(dead, region) => {
-                let leaf = self.leaf(ground, &region, dead)?;
-                Node::ended(ground.alloc, leaf)
-            }
-            Child::Open(region, steps) => {
+            Child::Known(dead, portion) => match self.portion_of(ground, node, portion)? {
+                Some(region) => self.ended(ground, &region, dead),
+                None => Ok(Node::new(ground.alloc)),
+            },
+            Child::Seen(Seen::Ended(dead, region)) => self.ended(ground, &region, dead),
+            Child::Seen(Seen::Open(region, steps)) => {
                 let hunt = self.hunt;
                 Node::of(ground.alloc, region, Some(Fresh { hunt, steps }))
             }
         }
     }
 
-    /// Puts the parts of the node at the path's end into the tree.
-    fn add_parts(&mut self, ground: Ground<'_>, children: Vec<Child>) -> Result<(), AllocError> {
+    /// The node of a region below the path that ends so.
+    fn ended(
+        &mut self,
+        ground: Ground<'_>,
+        region: &Region,
+        dead: Arc<Dead>,
+    ) -> Result<Node, AllocError> {
+        let leaf = self.leaf(ground, region, dead)?;
+        Node::ended(ground.alloc, leaf)
+    }
+
+    /// Puts the parts of the node, which is at the path's end, into the tree.
+    fn add_parts(
+        &mut self,
+        ground: Ground<'_>,
+        node: usize,
+        children: Vec<Child>,
+    ) -> Result<(), AllocError> {
         let mut part: usize = 0;
         for child in children {
             if let Some(frame) = self.path.last_mut() {
                 frame.part = part;
             }
             part = part.saturating_add(1);
-            let node = self.node_of(ground, child)?;
-            self.tree.nodes.push(node)?;
+            let made = self.node_of(ground, node, child)?;
+            self.tree.nodes.push(made)?;
         }
         Ok(())
     }
@@ -412,7 +438,7 @@ impl Search {
         };
         self.tree.branch(ground.alloc, node, region, branching)?;
         self.go_down(node, mark)?;
-        self.add_parts(ground, split.children)?;
+        self.add_parts(ground, node, split.children)?;
         Ok(None)
     }
 
@@ -459,9 +485,18 @@ impl Search {
         let Some(branching) = self.tree.branching(self.path[depth].node) else {
             return false;
         };
-        if !matches!(branching.decision, Decision::Order(_, _)) {
-            return false;
-        }
+        matches!(branching.decision, Decision::Order(_, _))
+            && self.is_against(depth, branching, part, placed)
+    }
+
+    /// The same of one that an order decides.
+    fn is_against(
+        &self,
+        depth: usize,
+        branching: &Branching,
+        part: usize,
+        placed: &SlotPairs,
+    ) -> bool {
         let mut known = self.known(depth, placed);
         branching.add_held(&mut known, placed);
         match branching.known_part(&known) {

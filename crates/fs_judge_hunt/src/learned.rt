@@ -3,7 +3,7 @@
 
 use crate::facts::Facts;
 use crate::links::{Edge, edge_after};
-use crate::names::{MOST_NAMES, Origin, has};
+use crate::names::{MOST_NAMES, Origin, bit, has};
 use crate::region::Region;
 use fs_cert_evidence::Cause;
 use std::alloc::{AllocError, Global};
@@ -12,11 +12,18 @@ use std::sync::Arc;
 /// As many cycles are kept.
 const MOST_CYCLES: usize = 256;
 
+/// A cycle, and the loads whose sources it rests on.
+#[derive(Drop)]
+struct Cycle {
+    edges: Arc<Vec<Edge>>,
+    loads: u64,
+}
+
 /// The cycles that one who hunts has learned, each once; how many of them the others were told, and how many of theirs
 /// were heard.
 #[derive(Drop)]
 pub struct Learned {
-    cycles: Vec<Arc<Vec<Edge>>>,
+    cycles: Vec<Cycle>,
     told: usize,
     heard: usize,
 }
@@ -52,15 +59,43 @@ fn lack_of(region: &Region, facts: &Facts, edge: &Edge, next: u8) -> Lack {
     }
 }
 
+/// The name behind that of the edge of this place.
+fn next_name(edges: &[Edge], place: usize) -> u8 {
+    match edge_after(edges, place) {
+        Some(next) => next.name,
+        None => 0,
+    }
+}
+
+/// The loads whose sources the cycle rests on.
+fn loads_of(edges: &[Edge]) -> u64 {
+    let mut loads = 0;
+    for (place, edge) in edges.iter().enumerate() {
+        match edge.cause {
+            Cause::FromReads => loads |= bit(edge.name),
+            Cause::ReadsFrom => loads |= bit(next_name(edges, place)),
+            _ => {}
+        }
+    }
+    loads
+}
+
+/// The names that have no source.
+fn without_source(region: &Region) -> u64 {
+    let mut names = 0;
+    for name in 0..MOST_NAMES as u8 {
+        if region.origin(name) == Origin::Unknown {
+            names |= bit(name);
+        }
+    }
+    names
+}
+
 /// The load whose source is all that the cycle lacks.
 fn lacking(region: &Region, facts: &Facts, edges: &[Edge]) -> Option<u8> {
     let mut found = None;
     for (place, edge) in edges.iter().enumerate() {
-        let next = match edge_after(edges, place) {
-            Some(next) => next.name,
-            None => edge.name,
-        };
-        match lack_of(region, facts, edge, next) {
+        match lack_of(region, facts, edge, next_name(edges, place)) {
             Lack::Nothing => {}
             Lack::Source(load) if found.is_none() || found == Some(load) => found = Some(load),
             _ => return None,
@@ -93,8 +128,11 @@ impl Learned {
     fn hear(&mut self, other: &Learned, from: usize) -> Result<(), AllocError> {
         for place in from..other.cycles.len() {
             let cycle = &other.cycles[place];
-            if self.cycles.len() < MOST_CYCLES && !self.has(cycle) {
-                self.cycles.push(Arc::try_clone(cycle)?)?;
+            if self.cycles.len() < MOST_CYCLES && !self.has(&cycle.edges) {
+                self.cycles.push(Cycle {
+                    edges: Arc::try_clone(&cycle.edges)?,
+                    loads: cycle.loads,
+                })?;
             }
         }
         Ok(())
@@ -113,7 +151,7 @@ impl Learned {
     /// Is the cycle there?
     fn has(&self, edges: &[Edge]) -> bool {
         for known in &self.cycles {
-            if are_same(known, edges) {
+            if are_same(&known.edges, edges) {
                 return true;
             }
         }
@@ -125,17 +163,23 @@ impl Learned {
         if self.cycles.len() < MOST_CYCLES && !self.has(edges) {
             let mut cycle = Vec::new(alloc);
             cycle.extend_from_slice(edges)?;
-            self.cycles.push(Arc::new(alloc, cycle)?)?;
+            self.cycles.push(Cycle {
+                edges: Arc::new(alloc, cycle)?,
+                loads: loads_of(edges),
+            })?;
         }
         Ok(())
     }
 
-    /// For each name how many cycles lack only its source.
+    /// For each name how many cycles lack only its source: these rest on one load that has none.
     pub(crate) fn votes(&self, region: &Region, facts: &Facts) -> [u16; MOST_NAMES] {
         let mut votes = [0u16; MOST_NAMES];
+        let open = without_source(region);
         for cycle in &self.cycles {
-            if let Some(load) = lacking(region, facts, cycle) {
-                vote(&mut votes, usize::from(load));
+            if (cycle.loads & open).count_ones() == 1 {
+                if let Some(load) = lacking(region, facts, &cycle.edges) {
+                    vote(&mut votes, usize::from(load));
+                }
             }
         }
         votes

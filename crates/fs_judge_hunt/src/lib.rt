@@ -30,6 +30,7 @@ mod options;
 mod pairs;
 mod paths;
 mod pieces;
+mod portions;
 mod region;
 mod rows;
 mod rules;

@@ -7,6 +7,7 @@ use std::alloc::{AllocError, Global};
 #[derive(Drop)]
 struct Walk {
     parents: [u8; MOST_NAMES],
+    /// With those that it doesn't go through.
     met: u64,
 }
 
@@ -84,18 +85,45 @@ pub(crate) fn way(
     last: u8,
     count: u8,
 ) -> Result<Vec<u8>, AllocError> {
+    way_among(alloc, relation, u64::MAX, first, last, count)
+}
+
+/// The same through these names alone, in at most so many steps.
+fn way_among(
+    alloc: Global,
+    relation: &Relation,
+    names: u64,
+    first: u8,
+    last: u8,
+    most: u8,
+) -> Result<Vec<u8>, AllocError> {
     let mut walk = Walk {
         parents: [0; MOST_NAMES],
-        met: bit(first),
+        met: !names | bit(first),
     };
     let mut layer = bit(first);
-    for _ in 0..count {
+    for _ in 0..most {
         if let Some(name) = before(relation, layer, last) {
             return walk.back(alloc, first, name);
         }
         layer = next_layer(&mut walk, relation, layer);
     }
     Ok(Vec::new(alloc))
+}
+
+/// The names that are on a cycle with this one, which is on one.
+fn knot(closure: &Relation, name: u8) -> u64 {
+    let later = closure.row(name);
+    let mut knot = 0;
+    let mut left = later;
+    for _ in 0..later.count_ones() {
+        let other = least(left);
+        left = without_least(left);
+        if closure.has(other, name) {
+            knot |= bit(other);
+        }
+    }
+    knot
 }
 
 /// The name behind the one of this place in a cycle.
@@ -131,11 +159,15 @@ pub(crate) fn cycle(
 ) -> Result<Option<Vec<u8>>, AllocError> {
     let mut best: Option<Vec<u8>> = None;
     let mut least = (usize::MAX, usize::MAX);
+    let mut names = 0;
     for name in 0..count {
         if closure.has(name, name) {
+            if !has(names, name) {
+                names = knot(closure, name);
+            }
             // a longer one isn't better
             let most = u8::try_from(least.0).unwrap_or(count).min(count);
-            let found = way(alloc, relation, name, name, most)?;
+            let found = way_among(alloc, relation, names, name, name, most)?;
             let cost = (found.len(), count_in(dear, &found));
             if !found.is_empty() && cost < least {
                 least = cost;

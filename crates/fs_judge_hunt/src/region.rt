@@ -169,6 +169,15 @@ impl Region {
         }
     }
 
+    /// The names that store in some run.
+    pub(crate) fn may_store(&self) -> u64 {
+        let mut stores = 0;
+        for left in &self.left {
+            stores |= left.sum.may_store;
+        }
+        stores
+    }
+
     /// What the load returns from.
     pub(crate) fn origin(&self, load: u8) -> Origin {
         let load = usize::from(load);
@@ -227,7 +236,9 @@ impl Region {
             return Ok(None);
         }
         let mut region = self.copy(alloc)?;
-        region.keep(alloc, field, hart, both(alloc, self.row(hart), row)?)?;
+        if !is_within(self.row(hart), row) {
+            region.put(alloc, field, hart, both(alloc, self.row(hart), row)?)?;
+        }
         Ok(Some(region))
     }
 
@@ -239,10 +250,5 @@ impl Region {
             }
         }
         true
-    }
-
-    /// Have the two the same runs and sources?
-    pub(crate) fn is_like(&self, other: &Region) -> bool {
-        self.origins == other.origins && self.is_in(other) && other.is_in(self)
     }
 }

@@ -3,9 +3,10 @@
 use crate::access::{Doing, class_of};
 use crate::endings::Outlook;
 use crate::facts::Facts;
-use crate::names::{Origin, least, without_least};
+use crate::names::Origin;
+use crate::portions::Portion;
 use crate::region::{Field, Region};
-use crate::rows::{Group, Row, both, do_meet, is_empty, join_both, without};
+use crate::rows::{Group, Row, are_same, both, do_meet, is_empty, join_both, without};
 use fs_cert_evidence::Inference;
 use std::alloc::{AllocError, Global};
 
@@ -35,7 +36,7 @@ struct Agreeing {
 
 /// A load and a store of two harts: the runs that are left of these, and what they do, by location and word.
 #[derive(Clone, Copy)]
-struct Parties<'a> {
+pub(crate) struct Parties<'a> {
     left: &'a [u64],
     loads: &'a [Group],
     others: &'a [u64],
@@ -56,17 +57,6 @@ impl Decision {
             Decision::Filter(hart) => Inference::Filter(hart),
         }
     }
-}
-
-/// Puts the region behind those that are there, if there is one.
-fn push_some(
-    regions: &mut Vec<Box<Region>>,
-    region: Option<Box<Region>>,
-) -> Result<(), AllocError> {
-    if let Some(region) = region {
-        regions.push(region)?;
-    }
-    Ok(())
 }
 
 impl Agreeing {
@@ -104,8 +94,41 @@ impl Agreeing {
     }
 }
 
+impl Parties<'_> {
+    /// Do the two agree in runs that are left?
+    pub(crate) fn do_agree(self) -> bool {
+        for class in self.loads {
+            if !do_meet(self.left, &class.row) {
+                continue;
+            }
+            if let Some(other) = class_of(self.stores, class.key) {
+                if do_meet(self.others, &other.row) {
+                    return true;
+                }
+            }
+        }
+        false
+    }
+
+    /// The runs that are left in which they do.
+    fn agreeing(self, alloc: Global) -> Result<Agreeing, AllocError> {
+        let mut agreeing = Agreeing {
+            loading: Vec::new(alloc),
+            storing: Vec::new(alloc),
+        };
+        agreeing.add_classes(alloc, self)?;
+        Ok(agreeing)
+    }
+
+    /// Are these all runs that are left?
+    pub(crate) fn are_whole(self, alloc: Global) -> Result<bool, AllocError> {
+        let agreeing = self.agreeing(alloc)?;
+        Ok(are_same(&agreeing.loading, self.left) && are_same(&agreeing.storing, self.others))
+    }
+}
+
 /// The runs in which the load has the address and the word of the hart's store.
-fn own_row(doing: &Doing, store: u8) -> &[u64] {
+pub(crate) fn own_row(doing: &Doing, store: u8) -> &[u64] {
     for own in &doing.own {
         if own.store == store {
             return own.row.as_slice();
@@ -114,249 +137,161 @@ fn own_row(doing: &Doing, store: u8) -> &[u64] {
     &[]
 }
 
-impl Splitter<'_> {
+impl<'a> Splitter<'a> {
     /// The regions that the decision makes of this one.
-    pub(crate) fn children(
-        self,
-        region: &Region,
-        facts: &Facts,
-        decision: Decision,
-    ) -> Result<Vec<Box<Region>>, AllocError> {
-        let mut left = Vec::new(self.alloc);
-        self.push_children(&mut left, region, facts, decision)?;
-        Ok(left)
-    }
-
-    /// Adds them.
-    fn push_children(
-        self,
-        left: &mut Vec<Box<Region>>,
-        region: &Region,
-        facts: &Facts,
-        decision: Decision,
-    ) -> Result<(), AllocError> {
-        match decision {
-            Decision::Choice(name) => self.push_choices(left, region, name),
-            Decision::Source(load) => self.push_sources(left, region, facts, load),
-            Decision::Order(first, second) => self.push_orders(left, region, first, second),
-            Decision::Cases(number) => self.push_cases(left, region, number),
-            Decision::Filter(hart) => self.push_outcome(left, region, facts, hart),
-        }
-    }
-
-    /// The same, by what must hold in the region.
-    pub(crate) fn parts(
+    pub(crate) fn regions(
         self,
         region: &Region,
         decision: Decision,
     ) -> Result<Vec<Box<Region>>, AllocError> {
-        let facts = Facts::of(self.field, region);
-        self.children(region, &facts, decision)
-    }
-
-    fn push_choices(
-        self,
-        left: &mut Vec<Box<Region>>,
-        region: &Region,
-        name: u8,
-    ) -> Result<(), AllocError> {
-        let hart = self.field.owner(name);
-        if let Some(doing) = self.field.doing(name) {
-            for group in &doing.choices {
-                self.push_with(left, region, hart, &group.row)?;
+        let mut regions = Vec::new(self.alloc);
+        for portion in self.portions(region, decision, usize::MAX)? {
+            if let Some(made) = self.make(region, portion)? {
+                regions.push(made)?;
             }
         }
-        Ok(())
+        Ok(regions)
     }
 
-    /// Adds the region with only those of the hart's runs that are in the row, if one is.
-    fn push_with(
+    /// The one of this number, if it makes so many.
+    pub(crate) fn region(
         self,
-        left: &mut Vec<Box<Region>>,
+        region: &Region,
+        decision: Decision,
+        number: usize,
+    ) -> Result<Option<Box<Region>>, AllocError> {
+        let portions = self.portions(region, decision, number.saturating_add(1))?;
+        if number < portions.len() {
+            self.make(region, portions[number])
+        } else {
+            Ok(None)
+        }
+    }
+
+    /// The portion of the region, if it has candidates.
+    pub(crate) fn make(
+        self,
+        region: &Region,
+        portion: Portion,
+    ) -> Result<Option<Box<Region>>, AllocError> {
+        match portion {
+            Portion::Choice(name, place) => {
+                let hart = self.field.owner(name);
+                self.with_some(region, hart, self.choice_row(name, place))
+            }
+            Portion::Idle(load) => self.idle(region, load),
+            Portion::Source(load, origin) => {
+                let some = self.with_source(region, load, origin)?;
+                Ok(returning(some, load, origin))
+            }
+            Portion::Ordered(first, second) => {
+                let mut ordered = region.copy(self.alloc)?;
+                ordered.before.add(first, second);
+                Ok(Some(ordered))
+            }
+            Portion::Case(number, way) => self.case(region, number, way),
+            Portion::Showing(hart) => {
+                let row = self.showing_row(region, hart)?;
+                self.with_some(region, hart, &row)
+            }
+        }
+    }
+
+    /// The region with only those of the hart's runs that are in the row, if one is.
+    fn with_some(
+        self,
         region: &Region,
         hart: u8,
         row: &[u64],
-    ) -> Result<(), AllocError> {
-        let some = region.with_some(self.alloc, self.field, hart, row)?;
-        push_some(left, some)
-    }
-
-    fn push_sources(
-        self,
-        left: &mut Vec<Box<Region>>,
-        region: &Region,
-        facts: &Facts,
-        load: u8,
-    ) -> Result<(), AllocError> {
-        if let Some(doing) = self.field.doing(load) {
-            self.push_idle(left, region, load, doing)?;
-            self.push_initial(left, region, load, doing)?;
-            self.push_stored(left, region, load, facts.may_store)?;
-        }
-        Ok(())
-    }
-
-    /// Adds the candidates in which the load isn't executed.
-    fn push_idle(
-        self,
-        left: &mut Vec<Box<Region>>,
-        region: &Region,
-        load: u8,
-        doing: &Doing,
-    ) -> Result<(), AllocError> {
-        let hart = self.field.owner(load);
-        let idle = without(self.alloc, region.row(hart), &doing.loads.any)?;
-        self.push_with(left, region, hart, &idle)
-    }
-
-    /// Adds those in which it returns what its location begins with, if they may be left.
-    fn push_initial(
-        self,
-        left: &mut Vec<Box<Region>>,
-        region: &Region,
-        load: u8,
-        doing: &Doing,
-    ) -> Result<(), AllocError> {
-        let known = region.origin(load);
-        if known != Origin::Unknown && known != Origin::Initial {
-            return Ok(());
-        }
-        let hart = self.field.owner(load);
-        let initial = region.with_some(self.alloc, self.field, hart, &doing.initial)?;
-        push_some(left, returning(initial, load, Origin::Initial))
-    }
-
-    /// Adds those in which it returns from one of these stores, if they may be left.
-    fn push_stored(
-        self,
-        left: &mut Vec<Box<Region>>,
-        region: &Region,
-        load: u8,
-        stores: u64,
-    ) -> Result<(), AllocError> {
-        let known = region.origin(load);
-        let mut rest = stores;
-        for _ in 0..stores.count_ones() {
-            let store = least(rest);
-            rest = without_least(rest);
-            if known == Origin::Unknown || known == Origin::From(store) {
-                self.push_from(left, region, load, store)?;
-            }
-        }
-        Ok(())
-    }
-
-    /// Adds those in which it returns from this store.
-    fn push_from(
-        self,
-        left: &mut Vec<Box<Region>>,
-        region: &Region,
-        load: u8,
-        store: u8,
-    ) -> Result<(), AllocError> {
-        let some = self.from_store(region, load, store)?;
-        push_some(left, returning(some, load, Origin::From(store)))
-    }
-
-    /// The candidates in which the load agrees with the store.
-    fn from_store(
-        self,
-        region: &Region,
-        load: u8,
-        store: u8,
     ) -> Result<Option<Box<Region>>, AllocError> {
-        let hart = self.field.owner(load);
-        if hart != self.field.owner(store) {
-            return self.from_another(region, load, store);
+        region.with_some(self.alloc, self.field, hart, row)
+    }
+
+    /// The runs with the choice of this place at the name.
+    pub(crate) fn choice_row(self, name: u8, place: usize) -> &'a [u64] {
+        match self.field.doing(name) {
+            Some(doing) if place < doing.choices.len() => doing.choices[place].row.as_slice(),
+            _ => &[],
         }
+    }
+
+    /// The hart's runs with which the outcome may be shown.
+    pub(crate) fn showing_row(self, region: &Region, hart: u8) -> Result<Row, AllocError> {
+        let facts = Facts::of(self.field, region);
+        let outlook = Outlook {
+            field: self.field,
+            region,
+            facts: &facts,
+        };
+        outlook.showing(self.alloc, hart)
+    }
+
+    /// The candidates in which the load isn't executed.
+    fn idle(self, region: &Region, load: u8) -> Result<Option<Box<Region>>, AllocError> {
+        let hart = self.field.owner(load);
         match self.field.doing(load) {
-            Some(doing) => region.with_some(self.alloc, self.field, hart, own_row(doing, store)),
+            Some(doing) => {
+                let idle = without(self.alloc, region.row(hart), &doing.loads.any)?;
+                self.with_some(region, hart, &idle)
+            }
             None => Ok(None),
         }
     }
 
+    /// The candidates in which the load may return from this.
+    fn with_source(
+        self,
+        region: &Region,
+        load: u8,
+        origin: Origin,
+    ) -> Result<Option<Box<Region>>, AllocError> {
+        let Some(doing) = self.field.doing(load) else {
+            return Ok(None);
+        };
+        let hart = self.field.owner(load);
+        match origin {
+            Origin::Unknown => Ok(None),
+            Origin::Initial => self.with_some(region, hart, &doing.initial),
+            Origin::From(store) if self.field.owner(store) == hart => {
+                self.with_some(region, hart, own_row(doing, store))
+            }
+            Origin::From(store) => self.from_another(region, load, store),
+        }
+    }
+
+    /// The load and the store of another hart.
+    pub(crate) fn parties<'b>(self, region: &'b Region, load: u8, store: u8) -> Option<Parties<'b>>
+    where
+        'a: 'b,
+    {
+        let loading = self.field.doing(load)?;
+        let storing = self.field.doing(store)?;
+        Some(Parties {
+            left: region.row(self.field.owner(load)),
+            loads: &loading.loads.classes,
+            others: region.row(self.field.owner(store)),
+            stores: &storing.stores.classes,
+        })
+    }
+
+    /// The candidates in which the load agrees with the store of another hart.
     fn from_another(
         self,
         region: &Region,
         load: u8,
         store: u8,
     ) -> Result<Option<Box<Region>>, AllocError> {
-        let (Some(loading), Some(storing)) = (self.field.doing(load), self.field.doing(store))
-        else {
+        let Some(parties) = self.parties(region, load, store) else {
             return Ok(None);
         };
-        let (hart, other) = (self.field.owner(load), self.field.owner(store));
-        let parties = Parties {
-            left: region.row(hart),
-            loads: &loading.loads.classes,
-            others: region.row(other),
-            stores: &storing.stores.classes,
-        };
-        let mut agreeing = Agreeing {
-            loading: Vec::new(self.alloc),
-            storing: Vec::new(self.alloc),
-        };
-        agreeing.add_classes(self.alloc, parties)?;
-        self.with_agreeing(region, hart, other, agreeing)
-    }
-
-    /// The region with only these runs of the two harts, if each has one.
-    fn with_agreeing(
-        self,
-        region: &Region,
-        hart: u8,
-        other: u8,
-        agreeing: Agreeing,
-    ) -> Result<Option<Box<Region>>, AllocError> {
-        let Agreeing { loading, storing } = agreeing;
+        let Agreeing { loading, storing } = parties.agreeing(self.alloc)?;
         if is_empty(&loading) || is_empty(&storing) {
             return Ok(None);
         }
         let mut smaller = region.copy(self.alloc)?;
-        smaller.keep(self.alloc, self.field, hart, loading)?;
-        smaller.keep(self.alloc, self.field, other, storing)?;
+        smaller.keep(self.alloc, self.field, self.field.owner(load), loading)?;
+        smaller.keep(self.alloc, self.field, self.field.owner(store), storing)?;
         Ok(Some(smaller))
-    }
-
-    fn push_orders(
-        self,
-        left: &mut Vec<Box<Region>>,
-        region: &Region,
-        first: u8,
-        second: u8,
-    ) -> Result<(), AllocError> {
-        self.push_ordered(left, region, first, second)?;
-        self.push_ordered(left, region, second, first)
-    }
-
-    /// Adds the region in which the first store comes before the second.
-    fn push_ordered(
-        self,
-        left: &mut Vec<Box<Region>>,
-        region: &Region,
-        first: u8,
-        second: u8,
-    ) -> Result<(), AllocError> {
-        let mut ordered = region.copy(self.alloc)?;
-        ordered.before.add(first, second);
-        left.push(ordered)?;
-        Ok(())
-    }
-
-    fn push_outcome(
-        self,
-        left: &mut Vec<Box<Region>>,
-        region: &Region,
-        facts: &Facts,
-        hart: u8,
-    ) -> Result<(), AllocError> {
-        let outlook = Outlook {
-            field: self.field,
-            region,
-            facts,
-        };
-        let row = outlook.showing(self.alloc, hart)?;
-        self.push_with(left, region, hart, &row)
     }
 }
 

@@ -5,8 +5,7 @@ use crate::clash::{Ending, Step};
 use crate::names::{MOST_NAMES, Origin, Relation};
 use crate::needs::Need;
 use crate::region::{Field, Region};
-use crate::rows::{Group, is_within};
-use crate::splits::{Decision, Splitter};
+use crate::splits::Decision;
 use std::alloc::{AllocError, Global};
 use std::sync::Arc;
 
@@ -116,31 +115,6 @@ impl Decision {
         match self {
             Decision::Source(load) => Some(load),
             Decision::Choice(name) => Some(name),
-            _ => None,
-        }
-    }
-}
-
-/// The place of the first group that has all of these runs.
-fn place_of(groups: &[Group], row: &[u64]) -> Option<usize> {
-    for (place, group) in groups.iter().enumerate() {
-        if is_within(row, &group.row) {
-            return Some(place);
-        }
-    }
-    None
-}
-
-impl Splitter<'_> {
-    /// Which one of the decision's regions this is, where the decision may be tried again below.
-    pub(crate) fn branch(self, decision: Decision, region: &Region) -> Option<Branch> {
-        match decision {
-            Decision::Source(load) => Some(Branch::Source(load, region.origin(load))),
-            Decision::Choice(name) => {
-                let doing = self.field.doing(name)?;
-                let row = region.row(self.field.owner(name));
-                Some(Branch::Choice(name, place_of(&doing.choices, row)?))
-            }
             _ => None,
         }
     }
