@@ -3,6 +3,7 @@
 use crate::wrong::add_wrong;
 use fs_app_io::Status;
 use fs_app_states::{compare, left_over, read_log};
+use fs_judge::USUAL_INFERENCES;
 use std::alloc::{AllocError, Global};
 
 /// Store buffering: of its four states none is forbidden, and with w,r at both slots only the one without a 1.
@@ -27,7 +28,7 @@ fn said(alloc: Global, log: &str, fences: &str) -> Result<String, AllocError> {
         Ok(log) => log,
         Err(error) => return format!(in alloc; "{error}"),
     };
-    match compare(alloc, &log, SB.as_bytes(), &fences) {
+    match compare(alloc, &log, SB.as_bytes(), &fences, USUAL_INFERENCES) {
         Ok(made) => match made.status {
             Status::Denied => format!(in alloc; "{}1", made.text),
             Status::Failure => format!(in alloc; "{}2", made.text),
