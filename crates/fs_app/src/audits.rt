@@ -296,7 +296,13 @@ fn answer_files<'a, R: Files + Input + Eprint + AllocGlobal + Threads + Sync>(
 {
     papers.read_prices(rt, audit.prices)?;
     let _table = read_prices(rt.alloc(), &papers.prices.bytes)?;
-    let asked = asked_of(audit, voice, papers);
+    let asked = asked_of(
+        audit,
+        voice,
+        papers.forms,
+        papers.inferences,
+        &papers.prices.bytes,
+    );
     let batch = audit_all(rt, files, audit.jobs, asked)?;
     let Batch {
         files: found,
@@ -323,7 +329,13 @@ fn answer_objects<'a, R: Files + Input + Eprint + AllocGlobal + Threads + Sync>(
 {
     papers.read_prices(rt, audit.prices)?;
     let _table = read_prices(rt.alloc(), &papers.prices.bytes)?;
-    let asked = asked_of(audit, voice, papers);
+    let asked = asked_of(
+        audit,
+        voice,
+        papers.forms,
+        papers.inferences,
+        &papers.prices.bytes,
+    );
     let batch = audit_all(rt, files, audit.jobs, asked)?;
     let Batch {
         objects,
@@ -338,15 +350,21 @@ fn answer_objects<'a, R: Files + Input + Eprint + AllocGlobal + Threads + Sync>(
     Ok(output)
 }
 
-/// What is asked of each file, at the prices that were read.
-fn asked_of<'p>(audit: &Audit<'_>, voice: Voice, papers: &'p Papers<'_>) -> Asked<'p> {
+/// What is asked of each file, at these prices.
+fn asked_of<'p>(
+    audit: &Audit<'_>,
+    voice: Voice,
+    forms: Forms,
+    inferences: usize,
+    prices: &'p [u8],
+) -> Asked<'p> {
     Asked {
-        prices: &papers.prices.bytes,
+        prices,
         is_anew: audit.anew,
         is_json: audit.json,
-        limits: limits_of(audit, papers.inferences),
+        limits: limits_of(audit, inferences),
         explains: voice.explains,
-        forms: papers.forms,
+        forms,
     }
 }
 

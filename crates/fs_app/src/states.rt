@@ -25,6 +25,20 @@ struct Asked {
     inferences: usize,
 }
 
+fn asked_of(states: &States<'_>, voice: Voice, forms: Forms, inferences: usize) -> Asked {
+    Asked {
+        shown: Shown {
+            all: states.all,
+            witnesses: states.witnesses,
+            json: states.json,
+            guarded: false,
+        },
+        voice,
+        forms,
+        inferences,
+    }
+}
+
 /// The states of each file, in their order. The fault of one is said on standard error, as JSON also where the states
 /// are printed, and the others go on.
 pub(crate) fn answer_states<R: Files + Input + Eprint + AllocGlobal>(
@@ -35,17 +49,7 @@ pub(crate) fn answer_states<R: Files + Input + Eprint + AllocGlobal>(
     inferences: usize,
 ) -> Result<Output, Fault> {
     let mut output = nothing(rt);
-    let asked = Asked {
-        shown: Shown {
-            all: states.all,
-            witnesses: states.witnesses,
-            json: states.json,
-            guarded: false,
-        },
-        voice,
-        forms,
-        inferences,
-    };
+    let asked = asked_of(states, voice, forms, inferences);
     let files = sources(rt, &states.files)?;
     for source in &files {
         add_states(rt, source, &states.fences, asked, &mut output)?;
@@ -174,7 +178,8 @@ pub(crate) fn answer_log<'a, R: Files + Input + Eprint + AllocGlobal>(
     match read_log(rt.alloc(), &papers.evidence.bytes) {
         Ok(log) => {
             let files = sources(rt, &states.files)?;
-            compare_files(rt, &files, &states.fences, &log, voice, papers)
+            let asked = asked_of(states, voice, papers.forms, papers.inferences);
+            compare_files(rt, &files, &states.fences, &log, asked)
         }
         Err(LogError::Fault(fault)) => Err(fault),
         Err(error) => {
@@ -192,13 +197,12 @@ fn compare_files<'a, R: Files + Input + Eprint + AllocGlobal>(
     files: &'a [Source],
     fences: &'a [String],
     log: &Log<'_>,
-    voice: Voice,
-    given: &Papers<'_>,
+    asked: Asked,
 ) -> Result<Output, Fault> {
     let mut output = nothing(rt);
     let mut names = Vec::new(rt.alloc());
     for source in files {
-        if let Some(compared) = compare_file(rt, source, fences, log, voice, given)? {
+        if let Some(compared) = compare_file(rt, source, fences, log, asked)? {
             output.text.push_str(compared.text.as_str())?;
             output.status = worse(output.status, compared.status);
             names.push(compared.name)?;
@@ -232,15 +236,14 @@ fn compare_file<'a, R: Files + Input + Eprint + AllocGlobal>(
     source: &'a Source,
     fences: &'a [String],
     log: &Log<'_>,
-    voice: Voice,
-    given: &Papers<'_>,
+    asked: Asked,
 ) -> Result<Option<Compared>, Fault> {
-    let mut papers = Papers::new(rt.alloc(), given.forms, given.inferences);
+    let mut papers = Papers::new(rt.alloc(), asked.forms, asked.inferences);
     papers.fences = fences;
     match compared_file(rt, source, log, &mut papers) {
         Ok(compared) => Ok(Some(compared)),
         Err(LogError::Fault(fault)) => {
-            say_fault(rt, fault, voice, &papers)?;
+            say_fault(rt, fault, asked.voice, &papers)?;
             Ok(None)
         }
         Err(error) => {
