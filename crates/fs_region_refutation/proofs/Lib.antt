@@ -13,9 +13,11 @@ pub mod Stacks
 pub mod Walked
 mod Joined
 mod Kept
+mod Closed
 mod Accesses
 mod AskedRuns
 pub mod Columns
+mod Firsts
 mod Found
 mod ListedRuns
 mod Named

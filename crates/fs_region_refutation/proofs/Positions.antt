@@ -40,7 +40,7 @@ first_of f p q same (x ∷ xs) =
     ap (λ (b : Bool). if not b then 1 + position_or_len p (map f xs) else 0) (same x)
     ∙ ap (λ (n : ℕ). if not (q x) then 1 + n else 0) (first_of f p q same xs)
 
-position_of : {X Y : Type 0} (f : X → Y) (p : Y → Bool) (q : X → Bool) → ((x : X) → p (f x) ≡ q x) → (xs : List X)
+pub position_of : {X Y : Type 0} (f : X → Y) (p : Y → Bool) (q : X → Bool) → ((x : X) → p (f x) ≡ q x) → (xs : List X)
     → position p (map f xs) ≡ position q xs
 position_of f p q same xs = rw (first_of f p q same xs, length-map xs f) refl
 

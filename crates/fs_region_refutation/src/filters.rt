@@ -1,14 +1,17 @@
 //! Runs of a hart that pass a test.
 
-ghost use Rattle.std.specs.Prelude.{◌≡◌, ℕ, ◌==◌, ◌&&◌, not, filter, Option, Some, IfOk};
+ghost use Rattle.std.specs.Prelude.{◌≡◌, ◌==◌, ◌&&◌, ◌++◌, ◌∷◌, [], not, List, filter, Some, if◌then◌else◌, IfOk, OnOk};
 ghost use Rattle.std.specs.List.{list_any, filter_map};
 ghost use Rattle.std.specs.List.Sorted.{IsSorted};
+ghost use Rattle.fs_kinds.specs.declared.reason.OperationName.{OperationName as Name};
+ghost use Rattle.fs_model.specs.declared.step.Step.{Step};
 ghost use Rattle.fs_model.specs.Test.{address_of};
 ghost use Rattle.fs_cert_evidence.specs.Regions.{address_at, loaded_at, loads_at};
 ghost use Rattle.fs_cert_evidence.specs.Splits.{chosen_at, agree, agrees_initially};
 ghost use Rattle.fs_model.specs.Numbers.{is_same};
+ghost use Rattle.fs_region_refutation.specs.declared.musts.Access.TheVariants.{Load};
 ghost use Rattle.fs_region_refutation.specs.Views.{runs_of};
-ghost use Rattle.fs_region_refutation.specs.inner.Pairs.{both, pair_at, pairs_of, is_among, by_pair};
+ghost use Rattle.fs_region_refutation.specs.inner.Pairs.{both, pair_at, is_among, by_pair, ArePairs};
 
 use crate::basis::Basis;
 use crate::lone::Lone;
@@ -137,15 +140,13 @@ fn listed(
 }
 
 /// The same, each once and in order. Neighbours mostly have one pair: so there are few to sort.
-fn pairs(
+pub(crate) fn pairs(
     alloc: Global,
     runs: &[&Lone],
     access: Access,
     at: u8,
 ) -> Result<Vec<(u32, u32)>, AllocError>
-    ensures has { IfOk result (λ pairs. (pair : Option (ℕ × ℕ))
-        → is_among pairs.items pair ≡ is_among (pairs_of access at (runs_of runs.now)) pair) }
-    ensures sorted { IfOk result (λ pairs. IsSorted by_pair pairs.items) }
+    ensures { IfOk result (λ pairs. ArePairs access at (runs_of runs.now) pairs.items) }
 {
     let mut pairs = listed(alloc, runs, access, at)?;
     pairs.dedup();
@@ -164,6 +165,37 @@ fn is_among(pairs: &[(u32, u32)], pair: Option<(u32, u32)>) -> bool
     }
 }
 
+/// The same, where it's known whether the last pair is: neighbours mostly have one pair.
+fn is_among_after(
+    pairs: &[(u32, u32)],
+    pair: Option<(u32, u32)>,
+    last: Option<(u32, u32)>,
+    was_among: bool,
+) -> bool
+    requires sorted { IsSorted by_pair pairs.now }
+    requires last { was_among ≡ is_among pairs.now last }
+    ensures { result ≡ is_among pairs.now pair }
+{
+    match (pair, last) {
+        (Some(one), Some(other)) if one == other => was_among,
+        _ => is_among(pairs, pair),
+    }
+}
+
+/// Puts the run behind those that are there, if it passes.
+pub(crate) fn push_if<'a>(
+    runs: &mut Vec<&'a Lone>,
+    run: &&'a Lone,
+    passes: bool,
+) -> Result<(), AllocError>
+    ensures { OnOk result (runs.new.items ≡ runs.old.items ++ (if passes then run.now ∷ [] else [])) }
+{
+    if passes {
+        runs.push(*run)?;
+    }
+    Ok(())
+}
+
 /// Those whose access at the position has one of the pairs. In constant time where there is none.
 fn keep_among<'a>(
     alloc: Global,
@@ -179,11 +211,15 @@ fn keep_among<'a>(
     if pairs.is_empty() {
         return Ok(List::new(Vec::new(alloc)));
     }
-    let kept = runs
-        .iter()
-        .copied()
-        .filter(|run| is_among(pairs, pair_at(run, access, at)))
-        .collect(alloc)?;
+    let mut kept = Vec::new(alloc);
+    let mut last = None;
+    let mut among = false;
+    for run in runs {
+        let pair = pair_at(run, access, at);
+        among = is_among_after(pairs, pair, last, among);
+        last = pair;
+        push_if(&mut kept, run, among)?;
+    }
     Ok(List::new(kept))
 }
 
@@ -220,18 +256,18 @@ pub(crate) fn agreeing_loads<'a>(
     Ok(kept)
 }
 
-/// Those whose store agrees with the load of some of the others.
+/// Those whose store agrees with the load of some of others, whose loads have these pairs.
 pub(crate) fn agreeing_stores<'a>(
     alloc: Global,
     runs: &[&'a Lone],
     store: OperationName,
-    others: &[&Lone],
-    load: OperationName,
+    loaded: &[(u32, u32)],
 ) -> Result<Runs<'a>, AllocError>
-    ensures { IfOk result (λ kept.
-        kept ≡ filter (λ run. list_any (λ other. agree other load run.now.steps store) (runs_of others.now)) runs.now) }
+    requires { IsSorted by_pair loaded.now }
+    ensures { (load : Name) → (others : List (List Step)) → ArePairs Load load.at others loaded.now
+        → IfOk result (λ kept. kept
+        ≡ filter (λ run. list_any (λ other. agree other load run.now.steps store) others) runs.now) }
 {
-    let pairs = pairs(alloc, others, Access::Load, load.at)?;
-    let kept = keep_among(alloc, runs, Access::Store, store.at, &pairs)?;
+    let kept = keep_among(alloc, runs, Access::Store, store.at, loaded)?;
     Ok(kept)
 }

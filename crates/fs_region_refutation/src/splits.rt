@@ -1,27 +1,31 @@
 //! How a region is split into smaller ones.
 
 ghost use Rattle.std.specs.Prelude.{◌≡◌, ◌≢◌, ℕ, ◌++◌, ◌+◌, ◌∷◌, ◌<◌, [], List, Bool, map, filter, length, nat_lt};
-ghost use Rattle.std.specs.Prelude.{take, drop, false, slice_get, unwrap_or, if◌then◌else◌, IfOk, OnOk};
+ghost use Rattle.std.specs.Prelude.{take, drop, false, slice_get, unwrap_or, if◌then◌else◌};
+ghost use Rattle.std.specs.Prelude.{IfOk, IfSome, IfNone, OnOk};
 ghost use Rattle.std.specs.List.{list_any};
 ghost use Rattle.fs_model.specs.declared.test.Test.{Test};
 ghost use Rattle.fs_model.specs.declared.step.Step.{Step};
 ghost use Rattle.fs_model.specs.Condition.{condition_of};
-ghost use Rattle.fs_cert_evidence.specs.Regions.{From, same_source};
+ghost use Rattle.fs_cert_evidence.specs.Regions.{Region as SpecRegion, From, same_source};
 ghost use Rattle.fs_cert_evidence.specs.Splits.{keep, agree, chosen_at, rising, by_choice, from_store, from_initial};
 ghost use Rattle.fs_cert_evidence.specs.Splits.{from_nothing, from_source, is_left, can_be_source, sources_for};
 ghost use Rattle.fs_cert_evidence.specs.Splits.{by_source, by_order, ways, ways_of, by_cases, by_outcome, with_source};
 ghost use Rattle.fs_cert_evidence.specs.Trees.{is_open};
 ghost use Rattle.fs_region_refutation.specs.Alone.{source_of};
+ghost use Rattle.fs_region_refutation.specs.declared.musts.Access.TheVariants.{Load};
 ghost use Rattle.fs_region_refutation.specs.Views.{region_of, regions_of, all_wanted, list_at, runs_of, known_source};
 ghost use Rattle.fs_region_refutation.specs.Views.{IsOf, AreOf};
+ghost use Rattle.fs_region_refutation.specs.inner.Pairs.{ArePairs};
 
 use crate::basis::Basis;
 use crate::endings::may_all_each;
 use crate::filters::{
-    agreeing_alone, agreeing_loads, agreeing_stores, choosing, loading_initial, not_loading,
+    agreeing_alone, agreeing_loads, agreeing_stores, choosing, loading_initial, not_loading, pairs,
+    push_if,
 };
 use crate::lone::Lone;
-use crate::musts::is_same_name;
+use crate::musts::{Access, is_same_name};
 use crate::region::{Region, Runs, Wanted};
 use crate::source::Source;
 use fs_kinds::{List, OperationName};
@@ -72,6 +76,25 @@ pub(crate) fn add_open<'a>(
 {
     if is_open(basis, &region) {
         regions.push(region)?;
+    }
+    Ok(())
+}
+
+/// The same of a region that is left out where it isn't open: none is given then.
+fn add_found<'a>(
+    basis: &Basis,
+    regions: &mut Vec<Region<'a>>,
+    found: Option<Region<'a>>,
+) -> Result<(), AllocError>
+    ensures regions { (it : SpecRegion) → IfSome found.entry (λ region. region_of region ≡ it)
+        → IfNone found.entry (is_open basis.now it ≡ false)
+        → OnOk result (regions_of regions.new.items
+        ≡ regions_of regions.old.items ++ filter (is_open basis.now) (it ∷ [])) }
+    ensures of { OnOk result (AreOf basis.now regions.old.items → IfSome found.entry (IsOf basis.now)
+        → AreOf basis.now regions.new.items) }
+{
+    if let Some(region) = found {
+        add_open(basis, regions, region)?;
     }
     Ok(())
 }
@@ -132,62 +155,82 @@ fn keep_within<'a>(
 }
 
 /// The runs of both harts in which the load agrees with the store in some run of the other: where no store does, no
-/// load is looked at.
+/// load is looked at, and none is given, as that hart would have no run left.
 fn keep_between<'a>(
     alloc: Global,
+    basis: &Basis,
     load: OperationName,
     region: &Region<'a>,
     store: OperationName,
-) -> Result<Region<'a>, AllocError>
-    requires { store.hart ≢ load.hart }
-    ensures region { IfOk result (λ smaller. region_of smaller ≡
-        keep load.hart (λ run. list_any (λ other. agree run load other store) ((region_of region.now).runs store.hart))
-        (keep store.hart (λ other. list_any (λ run. agree run load other store) ((region_of region.now).runs load.hart))
-        (region_of region.now))) }
-    ensures of { (t : Test) → IsOf t region.now → IfOk result (IsOf t) }
+    loaded: &[(u32, u32)],
+) -> Result<Option<Region<'a>>, AllocError>
+    requires other { store.hart ≢ load.hart }
+    requires loaded { ArePairs Load load.at ((region_of region.now).runs load.hart) loaded.now }
+    ensures some { IfOk result (λ found. IfSome found (λ smaller.
+        with_source load (From store) (region_of smaller) ≡ from_store load (region_of region.now) store)) }
+    ensures none { IfOk result (λ found. IfNone found
+        (is_open basis.now (from_store load (region_of region.now) store) ≡ false)) }
+    ensures of { (t : Test) → IsOf t region.now → IfOk result (λ found. IfSome found (IsOf t)) }
 {
     let loading = region.runs(load.hart);
     let storing = region.runs(store.hart);
-    let stores = agreeing_stores(alloc, storing, store, loading, load)?;
+    let stores = agreeing_stores(alloc, storing, store, loaded)?;
+    if stores.is_empty() && basis.is_hart(store.hart) {
+        return Ok(None);
+    }
     let loads = agreeing_loads(alloc, loading, load, stores.as_slice(), store)?;
     let smaller = keep(alloc, region, store.hart, stores)?;
     let smallest = keep(alloc, &smaller, load.hart, loads)?;
-    Ok(smallest)
+    Ok(Some(smallest))
 }
 
-/// The runs in which the load agrees with the store.
+/// The runs in which the load agrees with the store. None where no run of the store's hart would be left.
 fn keep_agreeing<'a>(
     alloc: Global,
+    basis: &Basis,
     load: OperationName,
     region: &Region<'a>,
     store: OperationName,
-) -> Result<Region<'a>, AllocError>
-    ensures region { IfOk result (λ smaller. with_source load (From store) (region_of smaller)
-        ≡ from_store load (region_of region.now) store) }
-    ensures of { (t : Test) → IsOf t region.now → IfOk result (IsOf t) }
+    loaded: &[(u32, u32)],
+) -> Result<Option<Region<'a>>, AllocError>
+    requires { ArePairs Load load.at ((region_of region.now).runs load.hart) loaded.now }
+    ensures some { IfOk result (λ found. IfSome found (λ smaller.
+        with_source load (From store) (region_of smaller) ≡ from_store load (region_of region.now) store)) }
+    ensures none { IfOk result (λ found. IfNone found
+        (is_open basis.now (from_store load (region_of region.now) store) ≡ false)) }
+    ensures of { (t : Test) → IsOf t region.now → IfOk result (λ found. IfSome found (IsOf t)) }
 {
     if store.hart == load.hart {
         let smaller = keep_within(alloc, load, region, store)?;
-        Ok(smaller)
+        Ok(Some(smaller))
     } else {
-        let smaller = keep_between(alloc, load, region, store)?;
-        Ok(smaller)
+        keep_between(alloc, basis, load, region, store, loaded)
     }
 }
 
-/// The load returns from this store.
+/// The load returns from this store. None where no run of the store's hart would be left.
 fn from_store<'a>(
     alloc: Global,
+    basis: &Basis,
     load: OperationName,
     region: &Region<'a>,
     store: OperationName,
-) -> Result<Region<'a>, AllocError>
-    ensures region { IfOk result (λ smaller. region_of smaller ≡ from_store load (region_of region.now) store) }
-    ensures of { (t : Test) → IsOf t region.now → IfOk result (IsOf t) }
+    loaded: &[(u32, u32)],
+) -> Result<Option<Region<'a>>, AllocError>
+    requires { ArePairs Load load.at ((region_of region.now).runs load.hart) loaded.now }
+    ensures some { IfOk result (λ found. IfSome found (λ smaller.
+        region_of smaller ≡ from_store load (region_of region.now) store)) }
+    ensures none { IfOk result (λ found. IfNone found
+        (is_open basis.now (from_store load (region_of region.now) store) ≡ false)) }
+    ensures of { (t : Test) → IsOf t region.now → IfOk result (λ found. IfSome found (IsOf t)) }
 {
-    let smaller = keep_agreeing(alloc, load, region, store)?;
-    let sourced = smaller.with_source(alloc, load, Source::From(store))?;
-    Ok(sourced)
+    match keep_agreeing(alloc, basis, load, region, store, loaded)? {
+        Some(smaller) => {
+            let sourced = smaller.with_source(alloc, load, Source::From(store))?;
+            Ok(Some(sourced))
+        }
+        None => Ok(None),
+    }
 }
 
 /// The load returns from the initial store of its location.
@@ -220,20 +263,25 @@ fn from_nothing<'a>(
     Ok(smaller)
 }
 
+/// The load, which has these pairs, returns from this source. None where no run of the source's hart would be left.
 fn from_source<'a>(
     alloc: Global,
     basis: &Basis,
     load: OperationName,
     region: &Region<'a>,
     source: &Source,
-) -> Result<Region<'a>, AllocError>
-    ensures region { IfOk result (λ smaller. region_of smaller
-        ≡ from_source basis.now load (region_of region.now) (source_of source.now)) }
-    ensures of { (t : Test) → IsOf t region.now → IfOk result (IsOf t) }
+    loaded: &[(u32, u32)],
+) -> Result<Option<Region<'a>>, AllocError>
+    requires { ArePairs Load load.at ((region_of region.now).runs load.hart) loaded.now }
+    ensures some { IfOk result (λ found. IfSome found (λ smaller.
+        region_of smaller ≡ from_source basis.now load (region_of region.now) (source_of source.now))) }
+    ensures none { IfOk result (λ found. IfNone found
+        (is_open basis.now (from_source basis.now load (region_of region.now) (source_of source.now)) ≡ false)) }
+    ensures of { (t : Test) → IsOf t region.now → IfOk result (λ found. IfSome found (IsOf t)) }
 {
     match source {
-        Source::Initial => from_initial(alloc, basis, load, region),
-        Source::From(store) => from_store(alloc, load, region, *store),
+        Source::Initial => Ok(Some(from_initial(alloc, basis, load, region)?)),
+        Source::From(store) => from_store(alloc, basis, load, region, *store, loaded),
     }
 }
 
@@ -315,7 +363,7 @@ fn sources_for(
 }
 
 /// A region for each source of the load, and one where it isn't executed. In time of the runs of its hart and of the
-/// source's, for each of the sources, beside a sort of both where the source is of another hart.
+/// source's, for each of the sources, beside a sort of the source's where it is of another hart, and one of the load's.
 pub fn by_source<'a>(
     alloc: Global,
     basis: &Basis,
@@ -328,11 +376,12 @@ pub fn by_source<'a>(
     ensures of { IfOk result (λ left. AreOf basis.now left.items) }
 {
     let sources = sources_for(alloc, basis, load, region)?;
+    let loaded = pairs(alloc, region.runs(load.hart), Access::Load, load.at)?;
     let mut left = Vec::new(alloc);
     add_open(basis, &mut left, from_nothing(alloc, load, region)?)?;
     for source in &sources {
-        let smaller = from_source(alloc, basis, load, region, source)?;
-        add_open(basis, &mut left, smaller)?;
+        let found = from_source(alloc, basis, load, region, source, &loaded)?;
+        add_found(basis, &mut left, found)?;
     }
     Ok(left)
 }
@@ -502,16 +551,6 @@ pub fn by_cases<'a>(
         add_open(basis, &mut left, region.with_wanted(alloc, others)?)?;
     }
     Ok(left)
-}
-
-/// Puts the run behind those that are there, if it passes.
-fn push_if<'a>(runs: &mut Vec<&'a Lone>, run: &&'a Lone, passes: bool) -> Result<(), AllocError>
-    ensures { OnOk result (runs.new.items ≡ runs.old.items ++ (if passes then run.now ∷ [] else [])) }
-{
-    if passes {
-        runs.push(*run)?;
-    }
-    Ok(())
 }
 
 /// Is the run of this number marked?

@@ -1,6 +1,7 @@
 //! What stands where in a run: by positions of the code.
 
-ghost use Rattle.std.specs.Prelude.{◌≡◌, ◌≤◌, Some, map, length, option_and_then, slice_get, IfOk};
+ghost use Rattle.std.specs.Prelude.{◌≡◌, ◌<◌, ◌≤◌, ◌&&◌, ℕ, Some, None, is_none, map, length, replicate, slice_get};
+ghost use Rattle.std.specs.Prelude.{option_and_then, if◌then◌else◌, IfOk};
 ghost use Rattle.std.specs.Option.{option_copied};
 ghost use Rattle.std.specs.List.{position};
 ghost use Rattle.fs_kinds.specs.Limits.{most_instructions, most_numbered};
@@ -29,27 +30,39 @@ pub(crate) fn step_of(steps: &[Step], place: Option<u8>) -> Option<&Step>
     steps.get(usize::from(place?))
 }
 
-/// The place of the first step that executes the instruction there.
-fn first_at(steps: &[Step], at: usize) -> Option<usize>
-    ensures { result ≡ place_of steps.now at }
+/// A table in which nothing stands.
+fn empty(alloc: Global, positions: usize) -> Result<Table, AllocError>
+    ensures { IfOk result (λ table. table.items ≡ replicate positions None) }
 {
-    steps.iter().position(|step| usize::from(step.at) == at)
+    vec![in alloc; None; positions]
 }
 
-fn place_of(steps: &[Step], at: usize) -> Option<u8>
-    requires { length steps.now ≤ most_instructions }
-    ensures { result ≡ place_of steps.now at }
+/// Puts the number at the position, if there is one, the table has it, and nothing stands there.
+fn put_first(table: &mut Table, at: Option<u8>, number: u8)
+    ensures length { length table.new.items ≡ length table.old.items }
+    ensures each { (k : ℕ) → k < length table.old.items → listed_at table.new.items k
+        ≡ (if is_same at (Some k) && is_none (listed_at table.old.items k) then Some number
+        else listed_at table.old.items k) }
 {
-    let place = first_at(steps, at)?;
-    Some(place as u8)
+    let Some(at) = at else {
+        return;
+    };
+    let place = usize::from(at);
+    if place < table.len() && table[place].is_none() {
+        table[place] = Some(number);
+    }
 }
 
-/// The place of the step that executes it, for each of so many positions.
+/// The place of the step that executes it, for each of so many positions. In time of the positions and the steps.
 pub(crate) fn places(alloc: Global, positions: usize, steps: &[Step]) -> Result<Table, AllocError>
     requires { length steps.now ≤ most_instructions }
     ensures { IfOk result (λ table. table.items ≡ map (place_of steps.now) (numbers_below positions)) }
 {
-    (0..positions).map(|at| place_of(steps, at)).collect(alloc)
+    let mut table = empty(alloc, positions)?;
+    for (place, step) in steps.iter().enumerate() {
+        put_first(&mut table, Some(step.at), place as u8);
+    }
+    Ok(table)
 }
 
 /// The position of the instruction that the operation executes, if it is one of the hart, whose steps these are.
@@ -64,48 +77,8 @@ fn position_in(hart: u8, steps: &[Step], operation: &Operation) -> Option<u8>
     }
 }
 
-/// That of each of these operations.
-fn positions_in(
-    alloc: Global,
-    hart: u8,
-    steps: &[Step],
-    operations: &[Operation],
-) -> Result<Table, AllocError>
-    ensures { IfOk result (λ table. table.items ≡ map (position_in hart steps.now) operations.now) }
-{
-    operations
-        .iter()
-        .map(|operation| position_in(hart, steps, operation))
-        .collect(alloc)
-}
-
-/// The number of the first operation at this position.
-fn index_of(positions: &[Option<u8>], at: usize) -> Option<usize>
-    ensures { result ≡ position (λ p. is_same p (Some at)) positions.now }
-{
-    positions.iter().position(|position| position.is_some_and(|position| usize::from(position)
-        == at))
-}
-
-fn number_of(positions: &[Option<u8>], at: usize) -> Option<u8>
-    requires { length positions.now ≤ most_numbered }
-    ensures { result ≡ position (λ p. is_same p (Some at)) positions.now }
-{
-    let number = index_of(positions, at)?;
-    Some(number as u8)
-}
-
-/// That of the first operation at it, for each of so many positions.
-fn numbers_among(alloc: Global, positions: usize, found: &[Option<u8>]) -> Result<Table, AllocError>
-    requires { length found.now ≤ most_numbered }
-    ensures { IfOk result (λ table. table.items
-        ≡ map (λ at. position (λ p. is_same p (Some at)) found.now) (numbers_below positions)) }
-{
-    (0..positions).map(|at| number_of(found, at)).collect(alloc)
-}
-
-/// The number of the operation that executes it, for each of so many positions. The cost: for each operation one step,
-/// and for each position the operations.
+/// The number of the operation that executes it, for each of so many positions. In time of the positions and the
+/// operations.
 pub(crate) fn numbers(
     alloc: Global,
     positions: usize,
@@ -117,6 +90,13 @@ pub(crate) fn numbers(
     ensures { IfOk result (λ table. table.items ≡ map (λ at. position (λ p. is_same p (Some at))
         (map (position_in hart steps.now) operations.now)) (numbers_below positions)) }
 {
-    let found = positions_in(alloc, hart, steps, operations)?;
-    numbers_among(alloc, positions, found.as_slice())
+    let mut table = empty(alloc, positions)?;
+    for (number, operation) in operations.iter().enumerate() {
+        put_first(
+            &mut table,
+            position_in(hart, steps, operation),
+            number as u8,
+        );
+    }
+    Ok(table)
 }

@@ -1,6 +1,7 @@
 -- The addresses and words of what runs load or store at a position.
-use Rattle.std.specs.Prelude.{ℕ, ◌==◌, Bool, false, ◌&&◌, Option, Some, None, List}
+use Rattle.std.specs.Prelude.{◌≡◌, ℕ, ◌==◌, Bool, false, ◌&&◌, Option, Some, None, List}
 use Rattle.std.specs.List.{list_any, filter_map}
+use Rattle.std.specs.List.Sorted.{IsSorted}
 use Rattle.std.specs.Ordering.{nat_cmp, ordering_then}
 use Rattle.std.specs.declared.cmp.Ordering.{Ordering}
 use Rattle.fs_model.specs.declared.step.Step.{Step}
@@ -28,3 +29,8 @@ is_among pairs None = false
 -- by the address, and by the word at one address
 abbrev pub by_pair : ℕ × ℕ → ℕ × ℕ → Ordering
 by_pair one other = ordering_then (nat_cmp one.0 other.0) (nat_cmp one.1 other.1)
+
+-- these, in order, are what the runs access at the position
+pub record ArePairs (access : Access) (at : ℕ) (runs : List (List Step)) (pairs : List (ℕ × ℕ)) : Type 0 where
+  pub has : (pair : Option (ℕ × ℕ)) → is_among pairs pair ≡ is_among (pairs_of access at runs) pair
+  pub sorted : IsSorted by_pair pairs

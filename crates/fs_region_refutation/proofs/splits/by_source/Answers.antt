@@ -1,4 +1,4 @@
-use Rattle.std.proofs.Common.{◌∙◌, [], ◌∷◌, filter, map, ap, subst, sym}
+use Rattle.std.proofs.Common.{◌∙◌, [], ◌∷◌, filter, map, refl, ap, subst, sym}
 use Rattle.std.proofs.lemmas.List.Elements.{All-nil, filter-append}
 use Rattle.fs_cert_evidence.specs.Regions.{Region}
 use Rattle.fs_cert_evidence.specs.Splits.{from_nothing, from_source}
@@ -25,9 +25,9 @@ loop-source-preserved c =
     let region = region_of c.args.region.now in
     let split : Source → Region = λ source. from_source t c.args.load region (source_of source) in (
       made_more (is_open t) split (filter (is_open t) (from_nothing c.args.load region ∷ [])) c.deref-source-items.result.now c.loop-source.source-index
-          _ _ _ (region_of c.in_ok-smaller.smaller) c.loop-source-test.true c.loop-source.invariant.0 c.in_ok-add_open-2.ensures.regions
-          c.in_ok-smaller.ensures.region,
-      c.in_ok-add_open-2.ensures.of c.loop-source.invariant.1 (c.in_ok-smaller.ensures.of t c.requires),
+          _ _ _ _ c.loop-source-test.true c.loop-source.invariant.0
+          (c.in_ok-add_found.ensures.regions _ c.in_ok-found.ensures.some c.in_ok-found.ensures.none) refl,
+      c.in_ok-add_found.ensures.of c.loop-source.invariant.1 (c.in_ok-found.ensures.of t c.requires),
     )
 
 pub returns : goal.returns

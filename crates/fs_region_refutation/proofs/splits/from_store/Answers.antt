@@ -1,8 +1,7 @@
-use Rattle.std.proofs.Common.{◌∙◌}
+use Rattle.std.proofs.Common.{IfSome, subst}
+use Rattle.fs_region_refutation.specs.Views.{IsOf}
 use Rattle.fs_region_refutation.proofs.splits.from_store.Goals as goal
 
-pub returns : goal.returns
-returns c = record {
-  region = c.in_ok-sourced.ensures.region ∙ c.in_ok-smaller.ensures.region;
-  of = λ t of. c.in_ok-sourced.ensures.of t (c.in_ok-smaller.ensures.of t of);
-}
+pub returns-in_ok-sourced-in-Some-clause-of : goal.returns-in_ok-sourced-in-Some-clause-of
+returns-in_ok-sourced-in-Some-clause-of c = λ t of.
+    c.in_ok-sourced-in-Some.ensures.of t (subst (λ found. IfSome found (IsOf t)) c.in-Some.is (c.in_ok-smaller.ensures.of t of))
