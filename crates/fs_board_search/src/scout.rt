@@ -21,7 +21,7 @@ use crate::floor_and_filled::{
     look_at_filled, stored_over_filled,
 };
 use crate::plan::{MOST_STEPS, cheapest_breaking};
-use crate::store::Store;
+use crate::store::{Store, cost, floor_cost};
 use crate::taken::{Child, Taken, push_children};
 use crate::watch::Watch;
 use fs_board::{Decision, Event, Part, Reply};
@@ -421,6 +421,21 @@ impl Scout {
         Ok(())
     }
 
+    /// A cut by cost, unless the node's least placement costs less than the best one posted: then there is none.
+    fn costly(&self, taken: &Taken) -> Option<Event>
+        ensures { IfSome result (IsTry self.now) }
+    {
+        let bound = self.bound.as_ref()?;
+        let offers = self.question.offers();
+        let is_cheaper = floor_cost(offers, taken.part.as_slice())
+            < cost(offers, bound.placement.as_slice());
+        if is_cheaper {
+            None
+        } else {
+            Some(Event::CutCost(taken.node))
+        }
+    }
+
     /// Stored witnesses that bound the node.
     fn bounding(&self, alloc: Global, taken: &Taken) -> Result<Option<Event>, AllocError>
         ensures { IfOk result (λ found. IfSome found (IsTry self.now)) }
@@ -569,7 +584,7 @@ impl Scout {
         ensures err { IfErr result (λ f. f ≢ Fault.Memory → IsCandidateFault self.old.test f) }
     {
         match way {
-            Way::Cost => Ok(Some(Event::CutCost(taken.node))),
+            Way::Cost => Ok(self.costly(taken)),
             Way::Bound => Ok(self.bounding(alloc, taken)?),
             Way::Stored => Ok(self.stored(alloc, taken)?),
             Way::Looked if is_filled_new(&taken.part, taken.slot) => self.looked(alloc, taken),

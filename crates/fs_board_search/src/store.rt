@@ -147,7 +147,7 @@ pub(crate) fn cost(offers: &Offers, placement: &[Entry]) -> u64 {
 }
 
 /// What the least placement of these decisions costs.
-fn floor_cost(offers: &Offers, decisions: &[Decision]) -> u64 {
+pub(crate) fn floor_cost(offers: &Offers, decisions: &[Decision]) -> u64 {
     u64::try_from(fs_board_offers::floor_cost(offers, decisions)).unwrap_or(NEVER)
 }
 

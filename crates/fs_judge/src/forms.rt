@@ -4,20 +4,27 @@ use fs_judge_hunt::{Form, Outline, no_run, put};
 use fs_region_refutation::Lone;
 use std::alloc::{AllocError, Global};
 
-/// A run with its outline.
+/// Neighbouring runs of one outline, from the first number to the last.
 #[derive(Clone, Copy, PartialEq, Eq, PartialOrd, Ord)]
 struct Outlined {
     outline: Outline,
-    run: usize,
+    first: usize,
+    last: usize,
 }
 
+/// The runs by their outlines, in their order. Neighbours mostly have the same, so there are few to sort.
 fn all_outlined(alloc: Global, runs: &[Lone]) -> Result<Vec<Outlined>, AllocError> {
-    let mut all = Vec::new(alloc);
+    let mut all: Vec<Outlined> = Vec::new(alloc);
     for (number, run) in runs.iter().enumerate() {
-        all.push(Outlined {
-            outline: Outline::of(run.steps()),
-            run: number,
-        })?;
+        let outline = Outline::of(run.steps());
+        match all.last_mut() {
+            Some(neighbours) if neighbours.outline == outline => neighbours.last = number,
+            _ => all.push(Outlined {
+                outline,
+                first: number,
+                last: number,
+            })?,
+        }
     }
     Ok(all)
 }
@@ -32,12 +39,14 @@ pub(crate) fn forms(alloc: Global, words: usize, runs: &[Lone]) -> Result<Vec<Fo
         if is_new {
             forms.push(Form {
                 outline: one.outline,
-                run: one.run,
+                run: one.first,
                 row: no_run(alloc, words)?,
             })?;
         }
         if let Some(form) = forms.last_mut() {
-            put(&mut form.row, one.run);
+            for run in one.first..one.last.saturating_add(1) {
+                put(&mut form.row, run);
+            }
         }
     }
     Ok(forms)

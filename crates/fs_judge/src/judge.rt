@@ -136,7 +136,7 @@ impl Judge {
         self.verdict_by(alloc, placement, first, &Alone)
     }
 
-    /// The same, where the team may hunt: others join where one has looked at 300 regions. What is found is checked as
+    /// The same, where the team may hunt: others join where one has looked at many regions. What is found is checked as
     /// any hunt's is, by all where there are 1,000 inferences. Which witness or refutation it is depends on their turns,
     /// whether it is a witness doesn't; but near the end of what a hunt may infer whether F15 comes may.
     pub fn verdict_by<T: Team>(

@@ -1,5 +1,6 @@
 //! One hunt by several: who they are, and what each does.
 
+use crate::fenced::Fenced;
 use crate::frames::{Ground, Hunted, Limits, Search};
 use crate::gathered::gathered;
 use crate::hunter::{Found, Hunter, Kept};
@@ -7,12 +8,12 @@ use crate::inferences::Refutation;
 use crate::learned::Learned;
 use crate::pieces::Piece;
 use crate::region::Field;
-use crate::rules::Rule;
 use fs_kinds::Placement;
 use std::alloc::{AllocError, Global};
 
-/// So many regions are looked at by one, before others join.
-const LOOKS_ALONE: usize = 300;
+/// So many regions are looked at by one, before others join: the cycles that end these end later ones too. Where others
+/// joined at 300, all together took twice the time over a ticket lock of five harts.
+const LOOKS_ALONE: usize = 3_000;
 
 /// The others who hunt for the same verdict, as one of them sees them.
 pub trait Others {
@@ -85,7 +86,7 @@ pub struct Chase<'a> {
     pub(crate) hunter: &'a Hunter,
     pub(crate) placement: &'a Placement,
     /// Rule 4 in each hart, with the placement.
-    pub(crate) fenced: &'a Vec<Vec<Rule>>,
+    pub(crate) fenced: &'a Vec<Fenced>,
     /// As many inferences may be made.
     pub(crate) most: usize,
 }

@@ -3,8 +3,6 @@
 use crate::access::NOWHERE;
 use crate::names::{MOST_NAMES, Origin, Relation, bit, has, least, without_least};
 use crate::region::{Field, Region};
-use crate::rows::is_within;
-use crate::rules::Rule;
 use crate::sum::{Common, Sum};
 use fs_kinds::MOST_LOCATIONS;
 
@@ -63,7 +61,9 @@ impl Facts {
         let mut hart: u8 = 0;
         for left in &region.left {
             self.add_sum(region, &left.sum);
-            self.add_fenced(field.fenced_in(hart), &left.row);
+            if let Some(fenced) = field.fenced_in(hart) {
+                fenced.add_to(&mut self.fenced, &left.row);
+            }
             hart = hart.saturating_add(1);
         }
         for name in 0..field.count {
@@ -93,15 +93,6 @@ impl Facts {
         self.pairs.add_all(name, common.pairs);
         if common.same != 0 {
             self.add_same(region, name, common.same);
-        }
-    }
-
-    /// Rule 4, where it holds in each of the hart's runs.
-    fn add_fenced(&mut self, rules: &[Rule], row: &[u64]) {
-        for rule in rules {
-            if rule.is_whole || is_within(row, &rule.row) {
-                self.fenced.add(rule.first, rule.second);
-            }
         }
     }
 

@@ -1,10 +1,9 @@
 //! Rule 4: fences between two operations of a run.
 
-use crate::forms::{Form, Outline};
+use crate::forms::Outline;
 use crate::hart::Hart;
 use crate::needs::{Need, SlotPairs};
-use crate::rows::{Row, copied, do_meet, is_within, join, no_run};
-use crate::rules::{Numbered, Rule};
+use crate::rows::do_meet;
 use fs_instr::Instr;
 use fs_kinds::{Classes, Entry, Kind, OperationName, Placement};
 use fs_model::Test;
@@ -24,8 +23,8 @@ const WRITE: Classes = Classes {
 /// for each.
 #[derive(Clone, Copy)]
 pub struct Barrier {
-    at: u8,
-    pairs: u8,
+    pub(crate) at: u8,
+    pub(crate) pairs: u8,
 }
 
 fn pair_bits(read_read: bool, read_write: bool, write_read: bool, write_write: bool) -> u8 {
@@ -87,7 +86,7 @@ pub fn written(alloc: Global, test: &Test, hart: u8) -> Result<Vec<Barrier>, All
 }
 
 /// These, and those that the placement puts into the hart's code.
-fn barriers(
+pub(crate) fn barriers(
     alloc: Global,
     hart: u8,
     written: &[Barrier],
@@ -135,84 +134,6 @@ fn are_fenced(outline: &Outline, barriers: &[Barrier], first: u8, second: u8) ->
     false
 }
 
-/// In how many of the forms does a fence order the two?
-fn count_fenced(forms: &[Form], barriers: &[Barrier], first: u8, second: u8) -> usize {
-    let mut count: usize = 0;
-    for form in forms {
-        if are_fenced(&form.outline, barriers, first, second) {
-            count = count.saturating_add(1);
-        }
-    }
-    count
-}
-
-/// The runs in which a fence orders the two, if it does in any.
-fn row(
-    alloc: Global,
-    hart: &Hart,
-    barriers: &[Barrier],
-    first: u8,
-    second: u8,
-) -> Result<Option<Row>, AllocError> {
-    let count = count_fenced(&hart.forms, barriers, first, second);
-    if count == 0 {
-        return Ok(None);
-    }
-    if count == hart.forms.len() {
-        return Ok(Some(copied(alloc, &hart.all)?));
-    }
-    let mut row = no_run(alloc, hart.words)?;
-    for form in &hart.forms {
-        if are_fenced(&form.outline, barriers, first, second) {
-            join(&mut row, &form.row);
-        }
-    }
-    Ok(Some(row))
-}
-
-fn add_pair(
-    alloc: Global,
-    found: &mut Vec<Rule>,
-    hart: &Hart,
-    barriers: &[Barrier],
-    first: &Numbered,
-    second: &Numbered,
-) -> Result<(), AllocError> {
-    if let Some(row) = row(alloc, hart, barriers, first.name.at, second.name.at)? {
-        let is_whole = is_within(&hart.all, &row);
-        found.push(Rule {
-            first: first.number,
-            second: second.number,
-            number: 4,
-            row,
-            is_whole,
-        })?;
-    }
-    Ok(())
-}
-
-/// The pairs of the hart's names between which rule 4 holds with the placement, each with the runs.
-pub(crate) fn fenced(
-    alloc: Global,
-    number: u8,
-    hart: &Hart,
-    placement: &Placement,
-) -> Result<Vec<Rule>, AllocError> {
-    let barriers = barriers(alloc, number, &hart.written, placement)?;
-    let mut found = Vec::new(alloc);
-    if barriers.is_empty() {
-        return Ok(found);
-    }
-    for first in &hart.names {
-        for second in &hart.names {
-            if first.number < second.number {
-                add_pair(alloc, &mut found, hart, &barriers, first, second)?;
-            }
-        }
-    }
-    Ok(found)
-}
-
 /// The pairs at slots of which one orders the two operations of a hart in runs of this outline.
 fn ordering(
     outline: &Outline,
@@ -248,19 +169,4 @@ pub(crate) fn add_fences(
         }
     }
     Ok(())
-}
-
-/// For each hart the pairs of its names between which rule 4 holds with the placement, each with the runs.
-pub(crate) fn all_fenced(
-    alloc: Global,
-    harts: &[Hart],
-    placement: &Placement,
-) -> Result<Vec<Vec<Rule>>, AllocError> {
-    let mut all = Vec::new(alloc);
-    let mut number: u8 = 0;
-    for hart in harts {
-        all.push(fenced(alloc, number, hart, placement)?)?;
-        number = number.saturating_add(1);
-    }
-    Ok(all)
 }

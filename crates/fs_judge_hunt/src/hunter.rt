@@ -6,14 +6,14 @@ ghost use Rattle.fs_kinds.specs.declared.fault.Fault.TheVariants.{Memory};
 use crate::access::initial_word;
 use crate::condition::Condition;
 use crate::crew::{Alone, Chase, Crew};
-use crate::fences::{all_fenced, fenced, pairs_at};
+use crate::fenced::{Fenced, all_fenced};
+use crate::fences::pairs_at;
 use crate::first::hunt_first;
 use crate::frames::{Hunted, Limits, Search};
 use crate::hart::{Hart, may_store_often};
 use crate::inferences::{Refutation, inferences_of};
 use crate::needs::Fences;
 use crate::region::Field;
-use crate::rules::Rule;
 use crate::witness::{Execution, execution_of};
 use fs_kinds::{Fault, Kind, MOST_LOCATIONS, OperationName, Placement, Slot};
 use fs_model::Test;
@@ -112,7 +112,7 @@ impl Kept {
 struct Wide {
     execution: Execution,
     borne: Placement,
-    fenced: Vec<Vec<Rule>>,
+    fenced: Vec<Fenced>,
 }
 
 /// What a hunt comes to.
@@ -178,11 +178,7 @@ impl Hunter {
         self.runs.has_many_stores
     }
 
-    pub(crate) fn field<'a>(
-        &'a self,
-        fenced: &'a [Vec<Rule>],
-        placement: &'a Placement,
-    ) -> Field<'a> {
+    pub(crate) fn field<'a>(&'a self, fenced: &'a [Fenced], placement: &'a Placement) -> Field<'a> {
         let entries = placement.as_slice();
         Field {
             harts: &self.runs.harts,
@@ -252,7 +248,7 @@ impl Hunter {
         self.hunt_by(alloc, kept, placement, most, &Alone)
     }
 
-    /// The same, by the crew: where one has looked at 300 regions the others join.
+    /// The same, by the crew: where one has looked at 3,000 regions the others join.
     pub fn hunt_by<C: Crew>(
         &self,
         alloc: Global,
@@ -340,7 +336,7 @@ impl Hunter {
         {
             return Ok(false);
         }
-        let mut rules = fenced(alloc, slot.hart, &self.runs.harts[number], &more)?;
+        let mut rules = Fenced::of(alloc, slot.hart, &self.runs.harts[number], &more)?;
         swap(&mut widest.fenced[number], &mut rules);
         if !widest.execution.bears(slot) {
             let field = self.field(&widest.fenced, &more);

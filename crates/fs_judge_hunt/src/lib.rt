@@ -12,6 +12,7 @@ mod condition;
 mod crew;
 mod endings;
 mod facts;
+mod fenced;
 mod fences;
 mod first;
 mod forms;

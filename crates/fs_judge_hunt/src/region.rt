@@ -2,11 +2,11 @@
 
 use crate::access::Doing;
 use crate::condition::{Node, Wanted};
+use crate::fenced::Fenced;
 use crate::hart::Hart;
 use crate::names::{MOST_NAMES, Origin, Relation};
 use crate::needs::Fences;
 use crate::rows::{Row, are_same, both, do_meet, is_empty, is_within};
-use crate::rules::Rule;
 use crate::sum::{Left, left_with};
 use fs_kinds::{List, OperationName};
 use std::alloc::{AllocError, Global};
@@ -17,7 +17,7 @@ use std::sync::Arc;
 pub(crate) struct Field<'a> {
     pub(crate) harts: &'a [Hart],
     /// Rule 4 in each hart, with the placement.
-    pub(crate) fenced: &'a [Vec<Rule>],
+    pub(crate) fenced: &'a [Fenced],
     /// What is placed.
     pub(crate) fences: Fences<'a>,
     pub(crate) nodes: &'a [Node],
@@ -84,13 +84,13 @@ impl<'a> Field<'a> {
         self.hart_of(name)?.doing(name)
     }
 
-    /// The rows of rule 4 in this hart.
-    pub(crate) fn fenced_in(&self, hart: u8) -> &'a [Rule] {
+    /// Rule 4 in this hart.
+    pub(crate) fn fenced_in(&self, hart: u8) -> Option<&'a Fenced> {
         let hart = usize::from(hart);
         if hart < self.fenced.len() {
-            self.fenced[hart].as_slice()
+            Some(&self.fenced[hart])
         } else {
-            &[]
+            None
         }
     }
 

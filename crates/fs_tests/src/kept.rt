@@ -1,7 +1,7 @@
 //! Hunts that begin with what earlier ones have kept.
 
 use crate::hunts::prepare;
-use crate::texts::{ACTOR, ALWAYS, CASES, LOCK, LOCK3, WAITERS};
+use crate::texts::{ACTOR, ALWAYS, CASES, JUMPS, LOCK, LOCK3, WAITERS};
 use fs_judge::{Judge, Verdict};
 use fs_judge_hunt::{Found, Hunter, Kept};
 use fs_kinds::{Fault, Placement};
@@ -172,18 +172,32 @@ const WAITERS_FENCES: &[&str] = &[
     "P0:1=rw,rw P1:1=rw,rw P2:1=rw,rw P3:1=rw,rw P4:1=rw,rw",
 ];
 
+/// The third instruction of the second hart jumps over the fence before the one behind it. This fence comes first: no
+/// execution is known then.
+const JUMPS_FENCES: &[&str] = &[
+    "P0:2=w,w P1:3=r,r",
+    "P0:2=w,w",
+    "P0:2=w,w P1:4=r,r",
+    "P0:2=w,w P1:1=r,r",
+    "P1:3=r,r",
+];
+
 /// Store buffering needs a fence of stores before loads in both harts.
 const STORES: &[&str] = &[SB, ALWAYS, CASES];
 
-/// What is said of store buffering, of the lock, and of five harts. Of the lock's four fences each is needed: a hart
-/// that comes second may load what there was before the first one stored, if its load isn't behind its AMO or the store
-/// of the first one isn't before the release. Each of the five harts needs a fence between its AMO or store and its
-/// load. With more fences orders of AMOs follow near the root that with fewer were decided, or followed the other way,
-/// below.
+/// What is said of store buffering, of the lock, of five harts, and of a reader that may jump over a fence. Of the lock's
+/// four fences each is needed: a hart that comes second may load what there was before the first one stored, if its load
+/// isn't behind its AMO or the store of the first one isn't before the release. Each of the five harts needs a fence
+/// between its AMO or store and its load. With more fences orders of AMOs follow near the root that with fewer were
+/// decided, or followed the other way, below. The fence that a reader may jump over orders its loads where it doesn't
+/// jump, and there alone.
 pub(crate) fn said_in_turn(alloc: Global) -> Result<String, Fault> {
     let mut text = all_judged(alloc, STORES, TWO_SLOTS)?;
     write_all_judged(alloc, LOCK, LOCK_FENCES, &mut text)?;
     write_all_judged(alloc, WAITERS, WAITERS_FENCES, &mut text)?;
+    write_all_judged(alloc, JUMPS, JUMPS_FENCES, &mut text)?;
+    let stays = JUMPS.replace(alloc, "1:x13=0", "1:x11=1 /\\ 1:x13=0")?;
+    write_all_judged(alloc, &stays, JUMPS_FENCES, &mut text)?;
     Ok(text)
 }
 
@@ -193,4 +207,6 @@ pub(crate) const SAID: &str = "+++-+++-- 0
 +++-+++-- 0
 -++++-+-- 0
 ++++-+- 0
+++--+ 0
+-+--+ 0
 ";

@@ -194,3 +194,20 @@ runs=1;
                       |                      |                      |                      | lw x13,0(x23)        ;
 exists (0:x7=1 /\\ 1:x7=1 /\\ 2:x7=1 /\\ 3:x7=1 /\\ (4:x10=0 \\/ 4:x11=0 \\/ 4:x12=0 \\/ 4:x13=0))
 ";
+
+/// Message passing whose reader jumps over a load where its second load returns 0.
+pub(crate) const JUMPS: &str = "RISCV JUMPS
+{
+0:x6=x; 0:x8=y;
+1:x6=x; 1:x8=y; 1:x9=z;
+2:x9=z;
+}
+ P0          | P1           | P2          ;
+ ori x5,x0,1 | lw x10,0(x8) | ori x5,x0,1 ;
+ sw x5,0(x6) | lw x11,0(x9) | sw x5,0(x9) ;
+ sw x5,0(x8) | beq x11,x0,L |             ;
+             | lw x12,0(x9) |             ;
+             | L:           |             ;
+             | lw x13,0(x6) |             ;
+exists (1:x10=1 /\\ 1:x13=0)
+";
