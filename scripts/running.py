@@ -24,7 +24,7 @@ EXAMPLES = f"{TOP}/examples"
 PRICES = f"{EXAMPLES}/prices.json"
 PRICE_LISTS = ["prices.json", "prices-linux.json", "prices-all.json"]
 LONGEST = 60                        # seconds of processor time that a run may take
-HANGING = 30                        # it is waited for so many times as long by the clock, in case it takes none
+HANGING, LEAST_WAIT = 30, 900       # it is waited for so many times as long by the clock, at least so many seconds
 NO_END = 124                        # the status of a run that took longer, as of `timeout`
 LONGEST_LINE = 400                  # of what a check that failed shows
 
@@ -67,7 +67,7 @@ def waited_for(process, seconds):
         return None
     with contextlib.suppress(ProcessLookupError, PermissionError):      # it has ended, or works as another user
         resource.prlimit(process, resource.RLIMIT_CPU, (seconds, seconds + 1))
-    return HANGING * seconds
+    return max(HANGING * seconds, LEAST_WAIT)
 
 
 def ran_on_terminal(command):
