@@ -24,7 +24,7 @@ EXAMPLES = f"{TOP}/examples"
 PRICES = f"{EXAMPLES}/prices.json"
 PRICE_LISTS = ["prices.json", "prices-linux.json", "prices-all.json"]
 LONGEST = 60                        # seconds of processor time that a run may take
-HANGING, LEAST_WAIT = 30, 900       # it is waited for so many times as long by the clock, at least so many seconds
+HANGING, LEAST_WAIT = 30, 1800      # it is waited for so many times as long by the clock, at least so many seconds
 NO_END = 124                        # the status of a run that took longer, as of `timeout`
 LONGEST_LINE = 400                  # of what a check that failed shows
 
