@@ -1,9 +1,11 @@
 -- The runs of all harts, from what the listing of each gives.
-use Rattle.std.proofs.Common.{◌≡◌, ◌∙◌, ℕ, ◌+◌, ◌-◌, ◌<◌, ◌≤◌, List, [], ◌∷◌, None, map, length, get_or, All, refl, sym, ap, subst, arith, Fits, w8, Result, Ok, Err}
+use Rattle.std.proofs.Common.{◌≡◌, ◌∙◌, ℕ, ◌+◌, ◌-◌, ◌<◌, ◌≤◌, List, [], ◌∷◌, ◌++◌, None, map, length, get_or, All, refl, sym, ap, subst, inl, inr, arith, Fits, w8, Result, Ok, Err}
 use Rattle.std.specs.Prelude.{IsOkUnless}
 use Rattle.std.specs.List.{AllPairs, Contains, slice_index_or}
 use Rattle.std.specs.Result.{IsErrAnd}
-use Rattle.std.proofs.lemmas.List.{get_or-map, length-map}
+use Rattle.std.proofs.lemmas.Bool.{cases_lt}
+use Rattle.std.proofs.lemmas.List.{get_or-map, get_or_append_left, length-append, length-map}
+use Rattle.std.proofs.Math.Seq.{get_or-append_seam}
 use Rattle.std.proofs.lemmas.List.Elements.{All-map, All-weaker}
 use Rattle.fs_kinds.specs.declared.fault.Fault.{Fault}
 use Rattle.fs_kinds.specs.declared.fault.Fault.TheVariants as fault
@@ -76,6 +78,23 @@ module _ (t : Test) (sets : List (List ℕ)) (values : AreValues t sets) where
         rising = rise hart here traces;
         exact = λ steps. (listed_run hart here traces steps, run_listed hart here traces steps);
       }
+
+-- ---- one hart more
+
+pub one_longer : (lists new : List (List Trace)) (traces : List Trace) (n : ℕ) → new ≡ lists ++ traces ∷ [] → length lists ≡ n → length new ≡ n + 1
+one_longer lists new traces n more long = (let a = ap length more in let b = length-append lists (traces ∷ []) in omega arith)
+
+pub listed_more : (t : Test) (sets : List (List ℕ)) (lists new : List (List Trace)) (traces : List Trace) (n : ℕ) → new ≡ lists ++ traces ∷ [] → length lists ≡ n
+    → AreListed t sets lists → AreTraces t n sets traces → AreListed t sets new
+listed_more t sets lists new traces n more long listed here hart low =
+    subst (λ xs. AreTraces t hart sets (slice_index_or xs hart [])) (sym more) (elim (cases_lt hart (length lists)) [
+      | inl less ↦ subst (AreTraces t hart sets) (sym (get_or_append_left lists (traces ∷ []) [] hart less)) (listed hart less)
+      | inr not_less ↦ (
+          let size = one_longer lists new traces n more long in
+          let last : length lists ≡ hart = omega (arith, low, not_less, size, long) in
+          subst (λ h. AreTraces t h sets (slice_index_or (lists ++ traces ∷ []) h [])) last
+          (subst (AreTraces t (length lists) sets) (sym (get_or-append_seam lists traces [] [])) (subst (λ h. AreTraces t h sets traces) (sym long) here)))
+    ])
 
 -- ---- registers
 

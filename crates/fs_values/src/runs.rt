@@ -11,7 +11,7 @@ ghost use Rattle.fs_values.specs.Rounds.{HasNoFault};
 ghost use Rattle.fs_values.specs.AllRuns.{AreListed, HaveFinal, runs_in};
 ghost use Rattle.fs_model.specs.Values.{HasAllRuns};
 
-use crate::values::Values;
+use crate::values::{Listed, Values};
 use fs_hart::{Trace, Words, traces_over};
 use fs_kinds::{Fault, List};
 use fs_model::Test;
@@ -46,6 +46,6 @@ pub fn all_runs(alloc: Global, test: &Test) -> Result<Vec<List<Trace>>, Fault>
     ensures listable { OnOk result (CanBeListed test.now) }
     ensures err { IfErr result (λ f. f ≢ Memory → IsRunFault test.now f) }
 {
-    let values = Values::of(alloc, test)?;
-    runs_over(alloc, test, values.as_slice())
+    let Listed { runs, .. } = Values::listed(alloc, test)?;
+    Ok(runs)
 }

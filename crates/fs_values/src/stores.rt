@@ -6,12 +6,13 @@ ghost use Rattle.std.specs.List.Sorted.{IsStrictlyIncreasing};
 ghost use Rattle.fs_kinds.specs.declared.fault.Fault.TheVariants.{Memory};
 ghost use Rattle.fs_model.specs.Test.{IsBounded, IsStart};
 ghost use Rattle.fs_hart.specs.Listing.{IsOffered};
+ghost use Rattle.fs_values.specs.AllRuns.{AreListed};
 ghost use Rattle.fs_values.specs.Rounds.{HasNoFault, IsFirstHartFault};
 ghost use Rattle.fs_values.specs.inner.Stores.{store_of, stores_of, stores_in, AreStoresBelow};
 
 use crate::rising::rising;
 use fs_hart::{Trace, Words, traces_over};
-use fs_kinds::Fault;
+use fs_kinds::{Fault, List};
 use fs_model::{Step, Test};
 use std::alloc::{AllocError, Global};
 
@@ -54,22 +55,34 @@ fn add_all_stores(stores: &mut Vec<Store>, traces: &[Trace]) -> Result<(), Alloc
     Ok(())
 }
 
-/// The stores of all runs of all harts in which each load takes a word of its location's set.
-pub(crate) fn stores_over(alloc: Global, test: &Test, sets: &[Words]) -> Result<Vec<Store>, Fault>
+/// What one round finds: for each hart its runs, and the stores of all of these.
+#[derive(Drop)]
+pub(crate) struct Round {
+    pub(crate) runs: Vec<List<Trace>>,
+    pub(crate) stores: Vec<Store>,
+}
+
+/// For each hart its runs in which each load takes a word of its location's set, as `traces_over` of each, and what
+/// they store. The fault is the first that is met, hart by hart.
+pub(crate) fn round_over(alloc: Global, test: &Test, sets: &[Words]) -> Result<Round, Fault>
     requires test { IsBounded test.now }
     requires starts { All IsStart test.now.starts }
     requires sets { All IsStrictlyIncreasing sets.now }
-    ensures ok { IfOk result
-        (λ stores. AreStoresBelow test.now (IsOffered sets.now) (length test.now.codes) stores.items) }
+    ensures harts { IfOk result (λ round. length round.runs.items ≡ length test.now.codes) }
+    ensures runs { IfOk result (λ round. AreListed test.now sets.now round.runs.items) }
+    ensures stores { IfOk result
+        (λ round. AreStoresBelow test.now (IsOffered sets.now) (length test.now.codes) round.stores.items) }
     ensures clean { OnOk result (HasNoFault test.now (IsOffered sets.now)) }
     ensures err { IfErr result (λ fault. fault ≢ Memory → IsFirstHartFault test.now (IsOffered sets.now) fault) }
 {
+    let mut runs = Vec::new(alloc);
     let mut stores = Vec::new(alloc);
     for hart in 0..test.codes.as_slice().len() {
         let traces = traces_over(alloc, test, hart as u8, sets)?;
         add_all_stores(&mut stores, &traces)?;
+        runs.push(List::new(traces))?;
     }
-    Ok(stores)
+    Ok(Round { runs, stores })
 }
 
 /// The set with the words that are stored at this address.

@@ -10,16 +10,25 @@ ghost use Rattle.fs_model.specs.TooMany.{IsRunFault};
 ghost use Rattle.fs_model.specs.Values.{IsValueAfter};
 ghost use Rattle.fs_hart.specs.Listing.{IsOffered};
 ghost use Rattle.fs_values.specs.ThinAir.{BeginsWithWords, CanBeListed, IsAlwaysGrounded};
+ghost use Rattle.fs_values.specs.AllRuns.{AreListed};
 ghost use Rattle.fs_values.specs.Sets.{AreSets, AreValues};
-ghost use Rattle.fs_values.specs.Rounds.{IsInNext, HasNoFault, IsFirstHartFault};
+ghost use Rattle.fs_values.specs.Rounds.{IsInNext, HasNoFault};
+ghost use Rattle.fs_values.specs.inner.Stores.{AreStoresBelow};
 
 use crate::rounds::rounds;
-use crate::stores::{stores_over, with_stores};
-use fs_hart::Words;
-use fs_kinds::Fault;
+use crate::stores::{Round, Store, round_over, with_stores};
+use fs_hart::{Trace, Words};
+use fs_kinds::{Fault, List};
 use fs_model::{Location, Test};
 use std::alloc::{AllocError, Global};
 use std::marker::Model;
+
+/// The value sets of a test, and for each hart all its runs over them.
+#[derive(Drop)]
+pub(crate) struct Listed {
+    pub(crate) values: Values,
+    pub(crate) runs: Vec<List<Trace>>,
+}
 
 /// For each location of a test the words that it can come to hold, as a set whose words rise. Contracts see the list of
 /// the sets.
@@ -50,23 +59,49 @@ impl Values {
         Ok(Values { sets })
     }
 
-    /// These words, and those that are stored where loads take these.
-    fn next(&self, alloc: Global, test: &Test) -> Result<Values, Fault>
+    /// These words, and those that are stored: these stores are of runs whose loads take these words.
+    fn joined(&self, alloc: Global, test: &Test, stores: &[Store]) -> Result<Values, AllocError>
         requires test { IsBounded test.now }
-        requires starts { All IsStart test.now.starts }
         requires locations { length self.now ≡ length test.now.locations }
-        requires sets { All IsStrictlyIncreasing self.now }
-        ensures ok { IfOk result (AreSets test.now (IsInNext test.now (IsOffered self.now))) }
-        ensures clean { OnOk result (HasNoFault test.now (IsOffered self.now)) }
-        ensures err { IfErr result (λ fault. fault ≢ Memory → IsFirstHartFault test.now (IsOffered self.now) fault) }
+        requires stores { AreStoresBelow test.now (IsOffered self.now) (length test.now.codes) stores.now }
+        ensures { IfOk result (AreSets test.now (IsInNext test.now (IsOffered self.now))) }
     {
-        let stores = stores_over(alloc, test, &self.sets)?;
+        let _ = test;
         let mut sets = Vec::new(alloc);
         for (location, set) in self.sets.iter().enumerate() {
             let address = Location::address(location as u8);
-            sets.push(with_stores(alloc, set.as_slice(), &stores, address)?)?;
+            sets.push(with_stores(alloc, set.as_slice(), stores, address)?)?;
         }
         Ok(Values { sets })
+    }
+
+    /// The value sets of the test, with the runs over them: what `of` says of both. The last round that adds nothing has
+    /// listed these runs, so they aren't listed again.
+    pub(crate) fn listed(alloc: Global, test: &Test) -> Result<Listed, Fault>
+        requires test { IsBounded test.now }
+        requires starts { All IsStart test.now.starts }
+        ensures values { IfOk result (λ listed. AreValues test.now listed.values) }
+        ensures harts { IfOk result (λ listed. length listed.runs.items ≡ length test.now.codes) }
+        ensures runs { IfOk result (λ listed. AreListed test.now listed.values listed.runs.items) }
+        ensures clean { OnOk result ((f : Fault) → IsRunFault test.now f → ⊥) }
+        ensures err { IfErr result (λ f. f ≢ Memory → IsRunFault test.now f) }
+        ensures listable { OnOk result (CanBeListed test.now) }
+        ensures grounded { OnOk result (IsAlwaysGrounded test.now) }
+        ensures no_fault { IfOk result (λ listed. HasNoFault test.now (IsOffered listed.values)) }
+    {
+        let mut values = Values::initial(alloc, test)?;
+        let most = rounds(test);
+        for _ in 0..most {
+            let Round { runs, stores } = round_over(alloc, test, &values.sets)?;
+            let more = values.joined(alloc, test, &stores)?;
+            if more.sets.as_slice() == values.sets.as_slice() {
+                return Ok(Listed { values, runs });
+            }
+            values = more;
+        }
+        // What is stored over the last sets is not asked for, but these runs may have a fault.
+        let Round { runs, .. } = round_over(alloc, test, &values.sets)?;
+        Ok(Listed { values, runs })
     }
 
     /// The value sets of the test, found in rounds: at first the initial words, and in each round also what a run
@@ -84,17 +119,7 @@ impl Values {
         ensures grounded { OnOk result (IsAlwaysGrounded test.now) }
         ensures no_fault { IfOk result (λ values. HasNoFault test.now (IsOffered values)) }
     {
-        let mut values = Values::initial(alloc, test)?;
-        let most = rounds(test);
-        for _ in 0..most {
-            let more = values.next(alloc, test)?;
-            if more.sets.as_slice() == values.sets.as_slice() {
-                return Ok(values);
-            }
-            values = more;
-        }
-        // What is stored over the last sets is not asked for, but these runs may have a fault.
-        stores_over(alloc, test, &values.sets)?;
+        let Listed { values, .. } = Values::listed(alloc, test)?;
         Ok(values)
     }
 
