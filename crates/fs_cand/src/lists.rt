@@ -42,7 +42,7 @@ impl Dependencies {
         ensures ok { IfOk result (λ deps. AreDepsOf traces.now deps) }
         ensures err { IsOkUnless result Memory }
     {
-        let mut deps = Vec::new(alloc);
+        let mut deps = Vec::with_capacity(alloc, traces.len())?;
         for trace in traces {
             deps.push(Deps::of(alloc, trace)?)?;
         }

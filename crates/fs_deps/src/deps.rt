@@ -52,7 +52,7 @@ impl Deps {
         ensures ok { IfOk result (λ d. IsDepsOf trace.now.steps d) }
         ensures err { IsOkUnless result Fault.Memory }
     {
-        let mut masks = Vec::new(alloc);
+        let mut masks = Vec::with_capacity(alloc, trace.steps().len())?;
         let mut tracker = Tracker::new();
         for (j, step) in trace.steps().iter().enumerate() {
             masks.push(tracker.masks(&step.instr))?;

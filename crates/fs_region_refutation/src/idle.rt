@@ -39,7 +39,7 @@ fn idle(alloc: Global) -> Trace
 fn idle_traces(alloc: Global, harts: usize) -> Result<Vec<Trace>, AllocError>
     ensures { IfOk result (λ idle. steps_in idle.items ≡ map (λ h. []) (numbers_below harts)) }
 {
-    let mut traces = Vec::new(alloc);
+    let mut traces = Vec::with_capacity(alloc, harts)?;
     for hart in 0..harts {
         traces.push(idle(alloc))?;
     }

@@ -10,7 +10,7 @@ use Rattle.fs_deps.proofs.deps.Deps.of.Goals as goal
 pub loop-j-init : goal.loop-j-init
 loop-j-init c =
     let steps = c.args.trace.now.steps in
-    let none = c.new-masks.ensures.items in
+    let none = c.in_ok-masks.ensures.items in
     (c.new-tracker.ensures steps, ap length none, subst (EachIsMasks steps) (sym none) (each_none steps))
 
 pub loop-j-preserved : goal.loop-j-preserved
