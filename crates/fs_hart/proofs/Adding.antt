@@ -29,19 +29,19 @@ first_append : (xs ys : List End) → first_astray (xs ++ ys) ≡ option_or (fir
 first_append [] ys = refl
 first_append (x ∷ xs) ys = ap (option_or x.astray) (first_append xs ys) ∙ sym (or_assoc x.astray (first_astray xs) (first_astray ys))
 
-first_after : (path : List Step) (xs : List End) → first_astray (map (after path) xs) ≡ first_astray xs
+pub first_after : (path : List Step) (xs : List End) → first_astray (map (after path) xs) ≡ first_astray xs
 first_after path [] = refl
 first_after path (x ∷ xs) = ap (option_or x.astray) (first_after path xs)
 
 abbrev end_of : List Step → Option ℕ → End
 end_of steps astray = record { steps = steps; astray = astray }
 
-after_after : (path : List Step) (s : Step) (xs : List End) → map (after path) (map (after (s ∷ [])) xs) ≡ map (after (path ++ s ∷ [])) xs
-after_after path s [] = refl
-after_after path s (x ∷ xs) =
-    let steps : path ++ (s ∷ x.steps) ≡ (path ++ s ∷ []) ++ x.steps = sym (append_assoc path (s ∷ []) x.steps) in
-    let rest = after_after path s xs in
-    let first : after path (after (s ∷ []) x) ≡ after (path ++ s ∷ []) x = ap (λ xs. end_of xs x.astray) steps in
+pub after_after : (path ss : List Step) (xs : List End) → map (after path) (map (after ss) xs) ≡ map (after (path ++ ss)) xs
+after_after path ss [] = refl
+after_after path ss (x ∷ xs) =
+    let steps : path ++ (ss ++ x.steps) ≡ (path ++ ss) ++ x.steps = sym (append_assoc path ss x.steps) in
+    let rest = after_after path ss xs in
+    let first : after path (after ss x) ≡ after (path ++ ss) x = ap (λ xs. end_of xs x.astray) steps in
     cc
 
 or_none : (a : Option ℕ) → option_or a None ≡ a
@@ -61,7 +61,7 @@ adds_more t hart ends subs s old mid pushed grown new a p1 p2 p3 p4 b q1 q2 q3 q
     let there : pushed.path.items ≡ path ++ s ∷ [] = p1 ∙ ap (λ xs. xs ++ s ∷ []) a.path in
     let whole = whole_traces t hart in
     let joined : whole (map (after path) (ends ++ map (after (s ∷ [])) subs)) ≡ whole (map (after path) ends) ++ whole (map (after (path ++ s ∷ [])) subs)
-    = ap whole (map-append (after path) ends (map (after (s ∷ [])) subs)) ∙ whole_append t hart (map (after path) ends) (map (after path) (map (after (s ∷ [])) subs)) ∙ ap (λ xs. whole (map (after path) ends) ++ whole xs) (after_after path s subs) in
+    = ap whole (map-append (after path) ends (map (after (s ∷ [])) subs)) ∙ whole_append t hart (map (after path) ends) (map (after path) (map (after (s ∷ [])) subs)) ∙ ap (λ xs. whole (map (after path) ends) ++ whole xs) (after_after path (s ∷ []) subs) in
     record {
       path = q1 ∙ a.path;
       runs = q2 ∙ b.runs ∙ ap (λ xs. xs ++ whole (map (after pushed.path.items) subs)) (p2 ∙ a.runs) ∙ ap (λ xs. (old.traces.items ++ whole (map (after path) ends)) ++ whole (map (after xs) subs)) there

@@ -7,7 +7,7 @@ use Rattle.std.proofs.lemmas.List.{append-nil}
 use Rattle.std.proofs.lemmas.List.Elements.{All-get_or}
 use Rattle.std.proofs.lemmas.Option.{slice_get_within, get_or_from_slice_get}
 use Rattle.fs_instr.specs.declared.instr.Instr.{Instr}
-use Rattle.fs_model.specs.Test.{GoesForward}
+use Rattle.fs_model.specs.Test.{GoesForward, IsBounded}
 use Rattle.fs_model.specs.declared.hart.Hart.{Hart}
 use Rattle.fs_model.specs.declared.step.Step.{Step}
 use Rattle.fs_model.specs.declared.step.Choice.{Choice}
@@ -30,6 +30,10 @@ steps_more n code h (x ∷ ss) s r q = (r.0, steps_more n code (after_step h x) 
 pub after_more : (h : Hart) (ss : List Step) (s : Step) → hart_after h (ss ++ s ∷ []) ≡ after_step (hart_after h ss) s
 after_more h [] s = refl
 after_more h (x ∷ ss) s = after_more (after_step h x) ss s
+
+pub after_all : (h : Hart) (ss us : List Step) → hart_after h (ss ++ us) ≡ hart_after (hart_after h ss) us
+after_all h [] us = refl
+after_all h (x ∷ ss) us = after_all (after_step h x) ss us
 
 pub choices_more : (ss : List Step) (s : Step) → choices_of (ss ++ s ∷ []) ≡ choices_of ss ++ option_to_list (choice_by s.instr s)
 choices_more [] s = append-nil (option_to_list (choice_by s.instr s))
@@ -163,6 +167,9 @@ makes_later n code h i c s forward l e m = goes_on code h.at h.registers s.instr
 
 pub code_forward : (t : Test) (hart : ℕ) → All GoesForward t.codes → hart < length t.codes → GoesForward (code_of t hart)
 code_forward t hart forward l = All-get_or GoesForward t.codes hart [] l forward
+
+pub code_short : (t : Test) (hart : ℕ) → IsBounded t → hart < length t.codes → length (code_of t hart) ≤ 32
+code_short t hart bounded l = All-get_or (λ code. length code ≤ 32) t.codes hart [] l bounded.lengths
 
 pub run_stops : (t : Test) (hart : ℕ) (choices : List Choice) (stop : Stop) → Stops t hart choices stop → IsRunOf t hart choices (run_of stop)
 run_stops t hart choices Short s = s

@@ -44,7 +44,7 @@ whole_leaf n code sets h past = record {
     only : (e : End) → IsEndFrom n code sets h e → IsOf (leaf None ∷ []) e
     only e f = let parts = only_steps e.steps e.astray f.runs f.ends in inl (same_end e (leaf None) parts.0 parts.1)
 
-no_step_astray : (n : ℕ) (code : List Instr) (h : Hart) (i : Instr) (s : Step) → slice_get code h.at ≡ Some i → GoesAstray n h i → IsStep n code h s → ⊥
+pub no_step_astray : (n : ℕ) (code : List Instr) (h : Hart) (i : Instr) (s : Step) → slice_get code h.at ≡ Some i → GoesAstray n h i → IsStep n code h s → ⊥
 no_step_astray n code h i s e g r = at_step n code h s [] (Astray h.at) r (i, e, (refl, g))
 
 -- where the instruction goes astray

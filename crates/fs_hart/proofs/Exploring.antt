@@ -1,11 +1,10 @@
 -- The walk from one state: its leaves, its children, and its end.
-use Rattle.std.proofs.Common.{◌≡◌, ℕ, ◌+◌, ◌-◌, ◌<◌, ◌≤◌, ◌⊎◌, Result, Ok, Err, Option, None, Some, List, [], ◌∷◌, ◌++◌, map, take, length, get_or, refl, ap, sym, subst, ◌∙◌, arith, inl, inr, All}
+use Rattle.std.proofs.Common.{◌≡◌, ℕ, ◌+◌, ◌<◌, ◌≤◌, ◌⊎◌, Result, Ok, Err, Option, None, Some, List, [], ◌∷◌, ◌++◌, map, take, length, get_or, refl, ap, sym, subst, ◌∙◌, arith, inl, inr, All}
 use Rattle.std.specs.Prelude.{slice_get, OnOk, IfErr, IsErrAnd}
 use Rattle.std.specs.Option.{option_or, option_to_list}
 use Rattle.std.specs.List.{Contains}
 use Rattle.std.specs.List.Sorted.{IsStrictlyIncreasing}
 use Rattle.std.proofs.lemmas.List.{append-nil, get_or_default, take_more, take_all, length-append, length-map}
-use Rattle.std.proofs.Math.Seq.{take-append_seam}
 use Rattle.fs_kinds.specs.declared.fault.Fault.{Fault}
 use Rattle.fs_kinds.specs.declared.fault.Fault.TheVariants.{TooManyTraces, Memory}
 use Rattle.fs_instr.specs.declared.instr.Instr.{Instr}
@@ -170,13 +169,6 @@ read_more t hart sets h n os i k s old mid pushed grown new g r rise l m a p1 p2
     subst (λ xs. Tries t hart sets h (take (k + 1) xs) old new) (sym r.options_are)
     (tries_more t hart sets h i (get_or all k None) k s old mid pushed grown new rise r.at inside (read_option all k inside) (read_makes t hart sets h n os i k s r m)
     (subst (λ xs. Tries t hart sets h (take k xs) old mid) r.options_are a) p1 p2 p3 p4 (subst (λ x. Explores t hart sets x pushed grown) e b) q1 q2 q3 q4)
-
--- the path without its last step
-pub popped : (n : ℕ) (xs ys zs : List Step) (s : Step) → n ≡ length zs → zs ≡ xs ++ s ∷ [] → ys ≡ take (n - 1) zs → ys ≡ xs
-popped n xs ys zs s size e f =
-    let long : length zs ≡ length xs + 1 = ap length e ∙ length-append xs (s ∷ []) in
-    let less : n - 1 ≡ length xs = omega arith in
-    f ∙ ap (λ k. take k zs) less ∙ ap (take (length xs)) e ∙ take-append_seam xs (s ∷ [])
 
 pub read_skipped : (t : Test) (hart : ℕ) (sets : List (List ℕ)) (h : Hart) (n : ℕ) (os : List (Option Choice)) (i : Instr) (k : ℕ) (stop : Stop) (old mid : Walk)
     → Reads t hart sets h n os i → k < length os → StopsAt n h i (option_to_list (get_or os k None)) stop

@@ -6,5 +6,6 @@ pub mod Options
 pub mod Ends
 pub mod Adding
 pub mod Exploring
+pub mod Leading
 pub mod HartFaults
 pub mod Listings

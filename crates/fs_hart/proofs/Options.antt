@@ -1,5 +1,5 @@
 -- The choices that a hart has at an instruction, and the steps that it can make with words of the sets.
-use Rattle.std.proofs.Common.{◌≡◌, ℕ, zero, suc, ◌+◌, ◌<◌, true, if◌then◌else◌, Option, None, Some, is_some, option_and_then, option_map, List, [], ◌∷◌, ◌++◌, map, length, get_or, take, refl, ap, sym, subst, ◌∙◌, arith, inl, inr, All}
+use Rattle.std.proofs.Common.{◌≡◌, ℕ, zero, suc, ◌<◌, true, if◌then◌else◌, Option, None, Some, is_some, option_and_then, option_map, List, [], ◌∷◌, ◌++◌, map, length, get_or, take, refl, ap, sym, subst, ◌∙◌, arith, inl, inr, All}
 use Rattle.std.specs.Prelude.{slice_get}
 use Rattle.std.specs.Option.{option_to_list}
 use Rattle.std.specs.List.{AllPairs, Contains, slice_index_or}
@@ -160,7 +160,7 @@ option_chosen n sets h (Fence before after) c s m p = sym (in_one None c p)
 option_chosen n sets h FenceTso c s m p = sym (in_one None c p)
 option_chosen n sets h FenceI c s m p = sym (in_one None c p)
 
-first_in : {X : Type 0} (x : X) (xs : List X) → Contains (x ∷ xs) x
+pub first_in : {X : Type 0} (x : X) (xs : List X) → Contains (x ∷ xs) x
 first_in x xs = (0, (omega arith), refl)
 
 one_of_both : (stored : Option ℕ) → Contains (Some Success ∷ Some Failure ∷ []) (Some (if is_some stored then Success else Failure))

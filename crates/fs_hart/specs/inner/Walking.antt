@@ -1,5 +1,5 @@
 -- The walk over the choice lists of a hart, from any state on its way.
-use Rattle.std.specs.Prelude.{◌≡◌, ℕ, ◌+◌, ◌<◌, ◌≤◌, ◌⊎◌, Bool, filter, is_none, Option}
+use Rattle.std.specs.Prelude.{◌≡◌, ℕ, ◌+◌, ◌<◌, ◌≤◌, ◌⊎◌, Bool, true, false, filter, is_none, Option}
 use Rattle.std.specs.Prelude.{None, Some, option_and_then, if◌then◌else◌, List, [], ◌∷◌, ◌++◌, map, length, slice_get, All}
 use Rattle.std.specs.List.{slice_index_or}
 use Rattle.std.specs.Option.{option_or}
@@ -14,8 +14,8 @@ use Rattle.fs_model.specs.declared.step.Choice.{Choice}
 use Rattle.fs_model.specs.declared.step.Choice.TheVariants.{Word, Success, Failure}
 use Rattle.fs_model.specs.Forms.{is_loading, is_sc}
 use Rattle.fs_model.specs.Execute.{address_in}
-use Rattle.fs_model.specs.Trace.{AreSteps, hart_after}
-use Rattle.fs_model.specs.Choices.{GoesAstray}
+use Rattle.fs_model.specs.Trace.{AreSteps, after_step, hart_after}
+use Rattle.fs_model.specs.Choices.{GoesAstray, Makes, is_choosing}
 use Rattle.fs_model.specs.Execution.{code_of}
 use Rattle.fs_model.specs.Values.{LoadsFrom}
 use Rattle.fs_model.specs.TooMany.{most_choice_lists}
@@ -37,11 +37,14 @@ set_at sets address = set_of sets (option_and_then location_of address)
 abbrev pub word_choice : ℕ → Option Choice
 word_choice word = Some (Word word)
 
--- one, which is none, where the instruction takes no choice
-abbrev pub options : List (List ℕ) → Hart → Instr → List (Option Choice)
-options sets h i =
-    if is_loading i then map word_choice (set_at sets (address_in h.registers i))
+-- a load or an amo takes one of these words; an instruction that takes no choice has one, which is none
+abbrev pub options_of : List ℕ → Instr → List (Option Choice)
+options_of words i =
+    if is_loading i then map word_choice words
     else (if is_sc i then Some Success ∷ Some Failure ∷ [] else None ∷ [])
+
+abbrev pub options : List (List ℕ) → Hart → Instr → List (Option Choice)
+options sets h i = options_of (set_at sets (address_in h.registers i)) i
 
 -- ---- ends from a state on
 
@@ -95,6 +98,33 @@ pub record Adds (t : Test) (hart : ℕ) (ends : List End) (old new : Walk) : Typ
   pub runs : new.traces.items ≡ old.traces.items ++ whole_traces t hart (map (after old.path.items) ends)
   pub number : new.ends ≡ old.ends + length ends
   pub first : new.astray ≡ option_or old.astray (first_astray ends)
+
+-- a step of an instruction that takes no choice
+pub record IsQuiet (n : ℕ) (code : List Instr) (h : Hart) (s : Step) : Type 0 where
+  pub instr : Instr
+  pub at : slice_get code h.at ≡ Some instr
+  pub quiet : is_choosing instr ≡ false
+  pub makes : Makes n h instr None s
+
+abbrev pub AreQuiet : ℕ → List Instr → Hart → List Step → Type 0
+AreQuiet n code h [] = Unit {0}
+AreQuiet n code h (s ∷ ss) = IsQuiet n code h s × AreQuiet n code (after_step h s) ss
+
+-- steps that take no choice lead from the state h to the state g, and the walk has them at the end of its path
+pub record Leads (n : ℕ) (code : List Instr) (h : Hart) (old : Walk) (g : Hart) (new : Walk) : Type 0 where
+  pub steps : List Step
+  pub quiet : AreQuiet n code h steps
+  pub state : g ≡ hart_after h steps
+  pub later : h.at ≤ g.at
+  pub inside : g.at ≤ length code
+  pub path : new.path.items ≡ old.path.items ++ steps
+  pub runs : new.traces.items ≡ old.traces.items
+  pub number : new.ends ≡ old.ends
+  pub first : new.astray ≡ old.astray
+
+-- the hart can't go on without a choice
+abbrev pub Halts : ℕ → List Instr → Hart → Type 0
+Halts n code h = (i : Instr) → slice_get code h.at ≡ Some i → (is_choosing i ≡ true) ⊎ GoesAstray n h i
 
 -- it has found all ends from the state h on
 pub record Explores (t : Test) (hart : ℕ) (sets : List (List ℕ)) (h : Hart) (old new : Walk) : Type 0 where
